@@ -1,6 +1,7 @@
 //! Lists of asks over a keeper, a shelf and a link in memory.
 mod bench;
 mod faults;
+mod lost_oks;
 mod prints;
 mod queue;
 mod seen;

@@ -6,6 +6,7 @@ mod doors;
 mod folder;
 mod keeper;
 mod link;
+mod log;
 mod names;
 mod outside;
 mod queue;

@@ -6,7 +6,7 @@ use messages::{
     CHROMIUM_ROOT, OPENSCAD_SLICING, OPENSCAD_STL, OPENSCAD_TEST, PRUSA_CYRILLIC, PRUSA_FOLDER,
     PRUSA_PRINT, PRUSA_TEST, PRUSA_UPLOAD, SLIC3R_LIST, SLIC3R_PRINT,
 };
-use octo_api_replies::direct_bytes;
+use octo_api_refusals::direct_bytes;
 use octo_api_requests::to_request;
 use octo_api_routes::Direct;
 use octo_asks::{Ask, Request};

@@ -2,6 +2,8 @@
 mod bodies;
 mod commands;
 mod faults;
+mod logins;
+mod moves;
 mod queue;
 mod uploads;
 mod users;
@@ -49,6 +51,7 @@ fn ask_of_post(alloc: Global, path: &str, body: &str) -> Result<Result<Ask, Dire
 fn name_of(request: &Request) -> &'static str {
     match request {
         Request::Version => "Version",
+        Request::Caller => "Caller",
         Request::GetJob => "GetJob",
         Request::Connect { port: Some(_) } => "Connect with a port",
         Request::Connect { port: None } => "Connect",

@@ -53,12 +53,13 @@ fn each_takes(rt: &impl Abort, alloc: Global, rows: &[(&str, &[&str])]) -> Resul
 }
 
 // The paths of the printer and its job, and the methods that they take.
-const PRINTER_PATHS: [(&str, &[&str]); 8] = [
+const PRINTER_PATHS: [(&str, &[&str]); 9] = [
     ("/api/version", &["GET", "HEAD"]),
     ("/api/connection", &["GET", "HEAD", "POST"]),
     ("/api/printer", &["GET", "HEAD"]),
-    ("/api/printer/tool", &["POST"]),
-    ("/api/printer/bed", &["POST"]),
+    ("/api/printer/tool", &["GET", "HEAD", "POST"]),
+    ("/api/printer/bed", &["GET", "HEAD", "POST"]),
+    ("/api/printer/printhead", &["POST"]),
     ("/api/printer/command", &["POST"]),
     ("/api/job", &["GET", "HEAD", "POST"]),
     ("/api/system/commands/core/shutdown", &["POST"]),
@@ -67,6 +68,22 @@ const PRINTER_PATHS: [(&str, &[&str]); 8] = [
 #[test]
 fn printer_paths(rt: HostRuntime) -> Result<(), Fail> {
     each_takes(&rt, rt.alloc(), &PRINTER_PATHS)
+}
+
+// Those that programs ask first.
+const FIRST_PATHS: [(&str, &[&str]); 7] = [
+    ("/api/server", &["GET", "HEAD"]),
+    ("/api/settings", &["GET", "HEAD"]),
+    ("/api/printerprofiles", &["GET", "HEAD"]),
+    ("/api/system/commands", &["GET", "HEAD"]),
+    ("/api/login", &["POST"]),
+    ("/api/logout", &["POST"]),
+    ("/api/currentuser", &["GET", "HEAD"]),
+];
+
+#[test]
+fn first_paths(rt: HostRuntime) -> Result<(), Fail> {
+    each_takes(&rt, rt.alloc(), &FIRST_PATHS)
 }
 
 // Those of files.

@@ -3,13 +3,18 @@ ghost use Rattle.std.specs.Prelude.{None, All, IfOk};
 ghost use Rattle.octo_asks.specs.Place.{no_place};
 ghost use Rattle.octo_outside_doors.specs.Memory.{IsUntouched};
 
+mod hostile;
 mod methods;
 mod page;
+mod shown;
 
 use super::conn_of;
+use byte_text::Name;
+use job_desk::State;
+use octo_access::GroupNames;
 use octo_api_routes::Routes;
 use octo_api_worker::{serve_conn, worker};
-use octo_asks::{Answer, Ask, Asker, Closed, Request};
+use octo_asks::{Answer, Ask, Asker, Closed, Request, ShownHeat};
 use octo_outside::{CallList, MemoryConn, calls_of};
 use octo_outside_doors::{ConnList, MemoryDoor};
 use std::alloc::{AllocError, Global};
@@ -37,6 +42,13 @@ impl Host {
     }
 }
 
+// The group of users.
+fn users() -> GroupNames {
+    let mut groups = GroupNames::new();
+    groups.push(Name::of_short("users"));
+    groups
+}
+
 // What the host answers to a request.
 fn answer_to(request: &Request) -> Answer {
     match request {
@@ -45,6 +57,22 @@ fn answer_to(request: &Request) -> Answer {
             name: name.copy(),
             select: false,
             print: false,
+        },
+        Request::GetPrinter => Answer::Printer {
+            state: State::Operational,
+            tool: Some(ShownHeat {
+                actual: 215,
+                target: 215,
+            }),
+            bed: None,
+        },
+        Request::Caller => Answer::Caller {
+            name: Some(Name::of_short("ana")),
+            groups: users(),
+        },
+        Request::GetLimits => Answer::Limits {
+            tool: 300,
+            bed: 120,
         },
         Request::Leave => Answer::Accepted,
         _ => Answer::NoFile,

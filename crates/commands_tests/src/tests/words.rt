@@ -2,7 +2,7 @@
 mod remarks;
 
 use octo_outside::WordList;
-use octo_words::{Command, FilePath, WordsFault, read_words};
+use octo_words::{Command, FilePath, WordsFault, asks_progress, read_words};
 use std::alloc::{AllocError, Global};
 use std::process::Abort;
 use std::test::Fail;
@@ -106,6 +106,7 @@ fn options_anywhere(rt: HostRuntime) -> Result<(), Fail> {
         ("print p a --turns=5", "print p a 5 none"),
         ("print p a --settings s", "print p a 1000000000 s"),
         ("print --settings s --turns 7 p a", "print p a 7 s"),
+        ("print p --progress a", "print p a 1000000000 none"),
         ("check a", "check a none"),
         ("check --settings=s a", "check a s"),
         ("check a --settings s", "check a s"),
@@ -114,6 +115,21 @@ fn options_anywhere(rt: HostRuntime) -> Result<(), Fail> {
         ("serve a f --settings s d", "serve a f d s"),
     ];
     reads(&rt, rt.alloc(), rows.as_slice())
+}
+
+// Which commands ask for a print's progress.
+#[test]
+fn progress_asked(rt: HostRuntime) -> Result<(), Fail> {
+    for (line, want) in [
+        ("print p a", false),
+        ("print --progress p a --turns 5", true),
+        ("print p -- --progress", false),
+        ("check a", false),
+    ] {
+        let words = word_list(rt.alloc(), line)?;
+        assert!(rt; asks_progress(rt.alloc(), &words) == Ok(want), "{line}");
+    }
+    Ok(())
 }
 
 #[test]
@@ -179,6 +195,9 @@ fn options_refused(rt: HostRuntime) -> Result<(), Fail> {
         "print p a --turns=5 --turns=6",
         "print p a --turns 5 --turns 5",
         "print p a --settings s --settings s",
+        "print p a --progress --progress",
+        "print p a --progress=yes",
+        "check a --progress",
         "print p a --turns -5",
         "print p a --settings -s",
         "print p a --turns",

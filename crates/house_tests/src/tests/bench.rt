@@ -5,15 +5,22 @@ use job_desk::State;
 use octo_asks::Ask;
 use octo_house::House;
 use octo_keeper::{KeeperFault, MemoryKeeper, MemoryShelf};
-use octo_outside::Blob;
+use octo_outside::{Blob, calls_of};
 use print_queue::Outcome;
-use printer_link::{FateList, MemoryLink};
+use printer_link::FateList;
 use std::alloc::Global;
 use std::process::Abort;
+use test_links::LossyLink;
 use test_makers::{ANA, house_of, keeper_of, kept_outcome, link_at, shelf_of, three_users};
 
 // The time limit of a line, in milliseconds.
 pub(super) const LIMIT: u64 = 30_000;
+
+// A link to port p over which these replies are lost.
+fn link_losing(rt: &impl Abort, alloc: Global, replies: &[u64]) -> LossyLink {
+    let link = link_at(alloc, "p", FateList::new(alloc)).expect(rt, "no memory");
+    LossyLink::new(link, calls_of(alloc, replies).expect(rt, "no memory"))
+}
 
 // A host with its keeper, its shelf and its link.
 #[derive(Drop)]
@@ -22,7 +29,9 @@ pub(super) struct Bench {
     house: House,
     pub keeper: MemoryKeeper,
     shelf: MemoryShelf,
-    link: MemoryLink,
+    link: LossyLink,
+    // The moment of the next turn.
+    moment: u64,
 }
 
 impl Bench {
@@ -41,14 +50,22 @@ impl Bench {
         ).expect(rt, "no memory");
         let mut shelf = shelf_of(alloc, shelf).expect(rt, "no memory");
         let house = house_of(alloc, material, LIMIT, &mut keeper, &mut shelf).expect(rt, "no host");
-        let link = link_at(alloc, "p", FateList::new(alloc)).expect(rt, "no memory");
+        let link = link_losing(rt, alloc, &[]);
         Bench {
             alloc,
             house,
             keeper,
             shelf,
             link,
+            moment: 7,
         }
+    }
+
+    // A host at which nothing fails, but the replies with these numbers are lost, counted from 1.
+    pub(super) fn losing(rt: &impl Abort, alloc: Global, replies: &[u64]) -> Bench {
+        let mut bench = Bench::sound(rt, alloc);
+        bench.link = link_losing(rt, alloc, replies);
+        bench
     }
 
     // A host with a printer of any material, at which nothing fails.
@@ -84,7 +101,18 @@ impl Bench {
 
     pub(super) fn turn(&mut self, rt: &impl Abort) {
         assert!(rt; self.link.is_up() == self.house.session().up());
-        self.house.turn(&mut self.link, &mut self.keeper, 7);
+        self.house
+            .turn(&mut self.link, &mut self.keeper, self.moment);
+    }
+
+    // Time limits pass, with turns enough for all that is then sent and received.
+    pub(super) fn pass_limits(&mut self, rt: &impl Abort, limits: u64) {
+        for _ in 0..limits {
+            self.moment = self.moment.saturating_add(LIMIT);
+            for _ in 0..20 {
+                self.turn(rt);
+            }
+        }
     }
 
     // Turns until the desk is in a state, 50 at most.

@@ -2,7 +2,7 @@
 use super::*;
 use octo_access::Permission;
 
-const SIX: &[u8] = b"G28\nG1 X1\nG1 X2\nG1 X3\nG1 X4\nG1 X5\n";
+pub(super) const SIX: &[u8] = b"G28\nG1 X1\nG1 X2\nG1 X3\nG1 X4\nG1 X5\n";
 
 // A connected host that prints a file of six commands.
 fn printing(rt: &impl Abort, alloc: Global) -> Bench {
@@ -55,6 +55,22 @@ fn disconnect_twice(rt: HostRuntime) {
     bench.end();
 }
 
+// `M112` alone during a print: the next turn sends it, and the one after it closes the link. The record is Failed.
+#[test]
+fn stop_while_printing(rt: HostRuntime) {
+    let mut bench = printing(&rt, rt.alloc());
+    bench.turn(&rt);
+    bench.accepts(&rt, ANA, Wish::Line(b"M112"));
+    let closing = Seen::WrongState(State::Closing);
+    bench.sees(&rt, ANA, Wish::Line(b"M112"), closing);
+    bench.turn(&rt);
+    assert_eq!(rt; bench.state(), State::Closing);
+    bench.turn(&rt);
+    assert_eq!(rt; bench.state(), State::Fault);
+    assert_eq!(rt; bench.kept_outcome(0), Some(Outcome::Failed));
+    bench.end();
+}
+
 // A restart ends the paused print as cancelled in the same commit.
 #[test]
 fn restart_while_paused(rt: HostRuntime) {
@@ -65,6 +81,77 @@ fn restart_while_paused(rt: HostRuntime) {
     bench.keeps(&rt, Some(Outcome::Cancelled), Some(Outcome::Active));
     bench.turn_until(&rt, State::Operational);
     assert_eq!(rt; bench.kept_outcome(1), Some(Outcome::Done));
+    bench.end();
+}
+
+// By hand it is moved while no print is active, paused or not; other lines are taken during a print.
+#[test]
+fn moves_by_hand(rt: HostRuntime) {
+    let mut bench = Bench::sound(&rt, rt.alloc());
+    bench.sees(
+        &rt,
+        ANA,
+        Wish::Move(b"G28 X"),
+        Seen::WrongState(State::Offline),
+    );
+    bench.connect(&rt);
+    bench.accepts(&rt, ANA, Wish::Move(b"G28 X"));
+    bench.sees(&rt, ANA, Wish::Move(b"M104 S251"), Seen::TooHot(251, 250));
+    bench.sees(
+        &rt,
+        EVE,
+        Wish::Move(b"G28 X"),
+        Seen::Denied(Some(Permission::Control)),
+    );
+    bench.end();
+}
+
+#[test]
+fn no_moves_while_printing(rt: HostRuntime) {
+    let mut bench = printing(&rt, rt.alloc());
+    bench.sees(
+        &rt,
+        ANA,
+        Wish::Move(b"G28 X"),
+        Seen::WrongState(State::Printing),
+    );
+    bench.accepts(&rt, ANA, Wish::Line(b"M220 S90"));
+    bench.accepts(&rt, ANA, Wish::Pause);
+    bench.turn_until(&rt, State::Paused);
+    bench.sees(
+        &rt,
+        ANA,
+        Wish::Move(b"G28 X"),
+        Seen::WrongState(State::Paused),
+    );
+    bench.end();
+}
+
+// Whom a key names is never refused: the admin, a user, and nobody, who is a guest.
+#[test]
+fn callers(rt: HostRuntime) {
+    let mut bench = Bench::sound(&rt, rt.alloc());
+    bench.sees(&rt, ROOT, Wish::Caller, Seen::Caller(Some(4), 6));
+    bench.sees(&rt, ANA, Wish::Caller, Seen::Caller(Some(3), 5));
+    bench.sees(&rt, b"", Wish::Caller, Seen::Caller(None, 6));
+    bench.sees(&rt, EVE, Wish::Limits, Seen::Limits(250, 100));
+    bench.sees(&rt, b"", Wish::Limits, Seen::Denied(None));
+    bench.end();
+}
+
+// The host's own ask connects to the first port, if the desk may connect.
+#[test]
+fn connects_itself(rt: HostRuntime) {
+    let mut bench = Bench::sound(&rt, rt.alloc());
+    bench.accepts(&rt, b"", Wish::AutoConnect);
+    assert_eq!(rt; bench.state(), State::Connecting);
+    bench.turn_until(&rt, State::Operational);
+    bench.sees(
+        &rt,
+        b"",
+        Wish::AutoConnect,
+        Seen::WrongState(State::Operational),
+    );
     bench.end();
 }
 

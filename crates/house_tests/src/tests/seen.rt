@@ -1,8 +1,9 @@
 //! What a test sees of an answer.
 use super::sums::{active_users, left_sum, newest, size_sum};
+use byte_text::Name;
 use gcode_lines::FileFault;
 use job_desk::State;
-use octo_access::Permission;
+use octo_access::{GroupNames, Permission};
 use octo_asks::{Answer, PrintRefusal, ShownEntry, ShownFile, StoredCause};
 use print_queue::Outcome;
 
@@ -10,6 +11,10 @@ use print_queue::Outcome;
 #[derive(Clone, Copy, PartialEq, Eq)]
 pub(super) enum Seen {
     Accepted,
+    // The bytes of the caller's name, if there is one, and those of the first group.
+    Caller(Option<usize>, usize),
+    // The greatest degrees of tool and bed.
+    Limits(u16, u16),
     // The number of ports.
     Connection(usize),
     // The size of the selected file, whether a print is going on, and the state.
@@ -64,6 +69,8 @@ pub(super) enum Seen {
 pub(super) fn seen_of(answer: &Answer) -> Seen {
     match answer {
         Answer::Accepted => Seen::Accepted,
+        Answer::Caller { name, groups } => Seen::Caller(length_of(name), first_length(groups)),
+        Answer::Limits { tool, bed } => Seen::Limits(*tool, *bed),
         Answer::Connection { ports, .. } => Seen::Connection(ports.as_slice().len()),
         Answer::Job {
             file,
@@ -117,6 +124,20 @@ fn size_of(file: &Option<ShownFile>) -> Option<u64> {
     match file {
         Some(file) => Some(file.size),
         None => None,
+    }
+}
+
+fn length_of(name: &Option<Name>) -> Option<usize> {
+    match name {
+        Some(name) => Some(name.as_str().len()),
+        None => None,
+    }
+}
+
+fn first_length(groups: &GroupNames) -> usize {
+    match groups.as_slice() {
+        [first, ..] => first.as_str().len(),
+        [] => 0,
     }
 }
 

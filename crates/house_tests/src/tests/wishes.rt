@@ -1,7 +1,7 @@
 //! What tests ask for.
 use byte_text::Name;
 use job_desk::State;
-use octo_asks::Request;
+use octo_asks::{BlobList, Request};
 use octo_outside::{Blob, ItemList};
 use std::alloc::Global;
 use std::process::Abort;
@@ -24,6 +24,11 @@ pub(super) enum Wish {
     Toggle,
     // The line.
     Line(&'static [u8]),
+    // The line that moves the printer by hand.
+    Move(&'static [u8]),
+    Caller,
+    Limits,
+    AutoConnect,
     // The degrees.
     HeatTool(u16),
     HeatBed(u16),
@@ -54,7 +59,12 @@ pub(super) enum Wish {
 // The request of a wish.
 pub(super) fn request_of(rt: &impl Abort, alloc: Global, wish: Wish) -> Request {
     match wish {
-        Wish::Line(text) => line(rt, alloc, text),
+        Wish::Line(text) => Request::Lines {
+            texts: line(rt, alloc, text),
+        },
+        Wish::Move(text) => Request::Move {
+            texts: line(rt, alloc, text),
+        },
         Wish::Upload(text, print) => upload(rt, alloc, text, print),
         Wish::Put(entry, priority, copies, material) => put(rt, entry, priority, copies, material),
         Wish::Drop(entry) => Request::DropOwn {
@@ -94,18 +104,21 @@ fn plain_request(wish: Wish) -> Request {
         Wish::Users => Request::ListUsers,
         Wish::Shutdown => Request::Shutdown,
         Wish::Leave => Request::Leave,
+        Wish::Caller => Request::Caller,
+        Wish::Limits => Request::GetLimits,
+        Wish::AutoConnect => Request::AutoConnect,
         _ => Request::Version,
     }
 }
 
-fn line(rt: &impl Abort, alloc: Global, text: &[u8]) -> Request {
+fn line(rt: &impl Abort, alloc: Global, text: &[u8]) -> BlobList {
     let mut texts = ItemList::new(alloc);
     assert!(rt;
         texts
             .push(Blob::from_slice(alloc, text).expect(rt, "no memory"))
             .is_ok()
     );
-    Request::Lines { texts }
+    texts
 }
 
 fn file(rt: &impl Abort) -> byte_text::Name {

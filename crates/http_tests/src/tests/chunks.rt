@@ -3,7 +3,7 @@ use super::{reads, refuses};
 use octo_http::MessageFault;
 use std::test::Fail;
 
-// Sizes with a sign, a blank or a prefix and without a digit; lines and chunks that don't end with CR LF.
+// Sizes with a sign, a blank or a prefix, without a digit and of 17 digits; lines and chunks that don't end with CR LF.
 #[test]
 fn bad_chunks(rt: HostRuntime) -> Result<(), Fail> {
     let texts = [
@@ -11,6 +11,7 @@ fn bad_chunks(rt: HostRuntime) -> Result<(), Fail> {
         "Transfer-Encoding: chunked\r\n\r\n 3\r\nabc\r\n0\r\n\r\n",
         "Transfer-Encoding: chunked\r\n\r\n0x3\r\nabc\r\n0\r\n\r\n",
         "Transfer-Encoding: chunked\r\n\r\n\r\nabc\r\n0\r\n\r\n",
+        "Transfer-Encoding: chunked\r\n\r\n00000000000000003\r\nabc\r\n0\r\n\r\n",
         "Transfer-Encoding: chunked\r\n\r\n3\nabc\r\n0\r\n\r\n",
         "Transfer-Encoding: chunked\r\n\r\n3\r\nabcd\r\n0\r\n\r\n",
         "Transfer-Encoding: chunked\r\n\r\n3\r\nabc\n0\r\n\r\n",
@@ -32,7 +33,7 @@ fn large_chunks(rt: HostRuntime) -> Result<(), Fail> {
     )
 }
 
-// An extension and a trailer; several chunks, and a byte after the message.
+// An extension and a trailer; several chunks, and a byte after the message; a size of 16 digits.
 #[test]
 fn good_chunks(rt: HostRuntime) -> Result<(), Fail> {
     let rows = [
@@ -43,6 +44,10 @@ fn good_chunks(rt: HostRuntime) -> Result<(), Fail> {
         (
             "Transfer-Encoding: chunked\r\n\r\n3\r\nabc\r\n0a\r\n0123456789\r\n0\r\n\r\nX",
             "abc0123456789",
+        ),
+        (
+            "Transfer-Encoding: chunked\r\n\r\n0000000000000003\r\nabc\r\n0\r\n\r\n",
+            "abc",
         ),
     ];
     reads(&rt, rt.alloc(), rows.as_slice())

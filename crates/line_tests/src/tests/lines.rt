@@ -56,7 +56,7 @@ fn assert_listings(
 }
 
 // A file, and what is found in it.
-const FILES: [(&str, &str); 21] = [
+const FILES: [(&str, &str); 23] = [
     ("", "skipped 0 of 0 bytes"),
     ("\n", "skipped 1 of 1 bytes"),
     ("G28", "1:0:0:G28\nskipped 0 of 3 bytes"),
@@ -99,6 +99,11 @@ const FILES: [(&str, &str); 21] = [
     ),
     ("M117 M110 N9\nG28\n", "2:13:13:G28\nskipped 1 of 17 bytes"),
     ("\x7f\n", "line 1: control byte"),
+    ("\u{feff}G28\n", "1:0:3:G28\nskipped 0 of 7 bytes"),
+    (
+        "\u{feff}\n\u{feff}N5 G28 ;\u{feff}x\nM117 \u{feff}\n",
+        "2:4:10:G28\n3:20:20:M117 \u{feff}\nskipped 1 of 29 bytes",
+    ),
 ];
 
 #[test]

@@ -3,6 +3,7 @@ ghost use Rattle.std.specs.Prelude.{◌≡◌, [], ◌∷◌, None};
 ghost use Rattle.send_window.specs.Counting.{acked_of};
 
 mod ends;
+mod lost;
 
 use byte_text::{Line, has_byte};
 use marlin_reply::Reply;
@@ -258,44 +259,6 @@ fn busy_then_silent(rt: HostRuntime) -> Result<(), Fail> {
     let mut sender = Sender::new(rt.alloc(), 1, LIMIT)?;
     gets_garbled_hello(&rt, &mut sender);
     play(&rt, &mut sender, &BUSY_THEN_SILENT);
-    Ok(())
-}
-
-// The hello is lost: it isn't sent again, and the session ends after five limits.
-const LOST_HELLO: [Step; 7] = [
-    (0, Act::Begin, Gives::Frames(&[HELLO])),
-    (30_000, Act::Tick, NOTHING),
-    (60_000, Act::Tick, NOTHING),
-    (90_000, Act::Tick, NOTHING),
-    (149_999, Act::Tick, NOTHING),
-    (179_999, Act::Tick, SILENCE),
-    (180_000, Act::Begin, Gives::Frames(&[HELLO])),
-];
-
-#[test]
-fn lost_hello(rt: HostRuntime) -> Result<(), Fail> {
-    let mut sender = Sender::new(rt.alloc(), 4, LIMIT)?;
-    play(&rt, &mut sender, &LOST_HELLO);
-    Ok(())
-}
-
-// The hello is lost, and the printer says other things within each limit: the session ends after five limits too.
-const LOST_HELLO_BUSY: [Step; 9] = [
-    (0, Act::Begin, Gives::Frames(&[HELLO])),
-    (10_000, Act::Hear(Reply::Busy), NOTHING),
-    (30_000, Act::Tick, NOTHING),
-    (40_000, Act::Hear(Reply::Other), NOTHING),
-    (60_000, Act::Tick, NOTHING),
-    (90_000, Act::Tick, NOTHING),
-    (120_000, Act::Tick, NOTHING),
-    (130_000, Act::Hear(Reply::Busy), NOTHING),
-    (150_000, Act::Tick, SILENCE),
-];
-
-#[test]
-fn lost_hello_busy(rt: HostRuntime) -> Result<(), Fail> {
-    let mut sender = Sender::new(rt.alloc(), 4, LIMIT)?;
-    play(&rt, &mut sender, &LOST_HELLO_BUSY);
     Ok(())
 }
 

@@ -32,6 +32,7 @@ fn status_reads_need(rt: HostRuntime) {
         Request::Version,
         Request::GetConnection,
         Request::GetPrinter,
+        Request::GetLimits,
         Request::GetJob,
         Request::ListPrints,
     ] {
@@ -76,7 +77,13 @@ fn connections_need(rt: HostRuntime) {
     needs(&rt, connect, &[Permission::Connection]);
     needs(&rt, Request::Disconnect, &[Permission::Connection]);
     needs(&rt, Request::Shutdown, &[Permission::System]);
-    needs(&rt, Request::Leave, &[]);
+}
+
+#[test]
+fn nothing_is_needed(rt: HostRuntime) {
+    for request in [Request::Caller, Request::Leave, Request::AutoConnect] {
+        needs(&rt, request, &[]);
+    }
 }
 
 #[test]
@@ -85,6 +92,8 @@ fn heaters_need(rt: HostRuntime) {
     needs(&rt, tool, &[Permission::Control]);
     let bed = Request::HeatBed { degrees: 60 };
     needs(&rt, bed, &[Permission::Control]);
+    let texts = BlobList::new(rt.alloc());
+    needs(&rt, Request::Move { texts }, &[Permission::Control]);
 }
 
 #[test]
@@ -231,6 +240,20 @@ fn prints_shown(rt: HostRuntime) -> Result<(), Fail> {
     Ok(())
 }
 
+// A move whose copy is taken.
+fn moved(alloc: Global) -> Result<Request, Fail> {
+    let mut texts = BlobList::new(alloc);
+    texts.push(Blob::from_slice(alloc, b"G28 X")?)?;
+    Ok(copied(alloc, Request::Move { texts })?)
+}
+
+#[test]
+fn ample_move(rt: HostRuntime) -> Result<(), Fail> {
+    let copy = moved(rt.alloc())?;
+    assert!(rt; matches!(&copy, Request::Move { texts } if texts.as_slice().len() == 1));
+    Ok(())
+}
+
 fn add_ask(alloc: Global, asks: &mut AskList, worker: u8, request: Request) -> Result<(), Fail> {
     let ask = Ask::of(alloc, b"ana-key-0123456789", request)?;
     asks.push((worker, ask))?;
@@ -314,5 +337,29 @@ fn history(rt: HostRuntime) -> Result<(), Fail> {
             ])
         )
     );
+    Ok(())
+}
+
+fn is_own(entry: &Entry) -> bool {
+    let Entry::Call {
+        worker,
+        ask,
+        moment,
+        ..
+    } = entry
+    else {
+        return false;
+    };
+    *worker == 4
+        && *moment == 6
+        && ask.key.is_empty()
+        && matches!(&ask.request, Request::AutoConnect)
+}
+
+#[test]
+fn own_call(rt: HostRuntime) -> Result<(), Fail> {
+    let mut counter = one_ask(rt.alloc())?;
+    counter.own(6, Answer::Accepted);
+    assert!(rt; matches!(counter.entries(), Some([entry]) if is_own(entry)));
     Ok(())
 }

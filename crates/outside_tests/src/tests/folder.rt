@@ -43,6 +43,11 @@ fn has_none<S: Shelf>(rt: &HostRuntime, shelf: &mut S, text: &str) -> Option<boo
     )
 }
 
+// How many bytes a shelf has under this name; `None` if it fails, and `Some(None)` if it has no such file.
+fn size<S: Shelf>(shelf: &mut S, text: &str) -> Option<Option<u64>> {
+    shelf.size(&Name::from_text(text)?).ok()
+}
+
 // The number of files that are listed, and the size of the first.
 fn listed<S: Shelf>(rt: &HostRuntime, shelf: &mut S) -> Option<(usize, u64)> {
     let list = shelf.list(rt.alloc()).ok()?;
@@ -56,7 +61,13 @@ fn ample(rt: HostRuntime) -> Result<(), Fail> {
     assert_eq!(rt; puts(&rt, &mut shelf, "b.gcode", b"G29\n"), Some(Ok(())));
     assert_eq!(rt; puts(&rt, &mut shelf, "A.GCO", b""), Some(Ok(())));
     assert_eq!(rt; holds(&rt, &mut shelf, "b.gcode", b"G29\n"), Some(true));
-    assert!(rt; listed(&rt, &mut shelf) == Some((2, 0)));
+    assert_eq!(rt; size(&mut shelf, "b.gcode"), Some(Some(4)));
+    // A list that is kept, and one after another put.
+    for _ in 0..2 {
+        assert!(rt; listed(&rt, &mut shelf) == Some((2, 0)));
+    }
+    assert_eq!(rt; puts(&rt, &mut shelf, "A.GCO", b"G28\n"), Some(Ok(())));
+    assert!(rt; listed(&rt, &mut shelf) == Some((2, 4)));
     fs::remove_dir_all(&rt, "folder_shelf_test")?;
     Ok(())
 }
@@ -102,6 +113,9 @@ fn what_is_listed(rt: HostRuntime) -> Result<(), Fail> {
     write_names(&rt)?;
     assert!(rt; listed(&rt, &mut shelf) == Some((1, 4)));
     assert_eq!(rt; has_none(&rt, &mut shelf, "notes.txt"), Some(true));
+    for text in ["notes.txt", "folder.gcode", "b.gcode"] {
+        assert_eq!(rt; size(&mut shelf, text), Some(None));
+    }
     fs::remove_dir_all(&rt, "folder_shelf_names")?;
     Ok(())
 }

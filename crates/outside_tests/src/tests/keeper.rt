@@ -1,4 +1,5 @@
 //! Tables and a shelf in memory.
+mod settling;
 mod shelf;
 mod tables;
 
@@ -7,7 +8,7 @@ use std::alloc::Global;
 use std::process::Abort;
 
 // The list of one call.
-fn only(rt: &impl Abort, alloc: Global, call: u64) -> CallList {
+pub(super) fn only(rt: &impl Abort, alloc: Global, call: u64) -> CallList {
     let mut calls = CallList::new(alloc);
     assert!(rt; calls.push(call).is_ok());
     calls

@@ -1,6 +1,5 @@
 //! Whole prints.
 ghost use Rattle.std.specs.Prelude.{◌≡◌, false};
-ghost use Rattle.printer_link.specs.Memory.{link_world};
 ghost use Rattle.octo_session_print.specs.Ends.{IsNew};
 
 mod ends;
@@ -13,7 +12,7 @@ use job_desk::Scripts;
 use octo_outside::MemoryClock;
 use octo_session::{Session, SessionEnd};
 use octo_session_print::{PrintEnd, run_print};
-use printer_link::{Fate, MemoryLink};
+use printer_link::{Fate, Link, MemoryLink};
 use std::alloc::Global;
 use std::process::Abort;
 use std::test::Fail;
@@ -56,14 +55,14 @@ const PLAIN: Asked = Asked {
 };
 
 // Prints in this session, over port p of this link.
-fn print_over(
+fn print_over<L: Link>(
     alloc: Global,
     session: &mut Session,
-    link: &mut MemoryLink,
+    link: &mut L,
     asked: &Asked,
 ) -> Result<PrintEnd, Fail>
     requires new { IsNew session.old }
-    requires down { (link_world link.old).linked ≡ false }
+    requires down { L.up link.old ≡ false }
 {
     let port = Name::of("p")?;
     let name = Name::of("a.gcode")?;

@@ -2,6 +2,7 @@
 ghost use Rattle.std.specs.Prelude.{◌≡◌, IfOk};
 
 mod failing;
+mod stopping;
 
 use super::makers::{SOUND, Wire, check_first, link_of, plain_session, scripts_of};
 use byte_text::Name;
@@ -33,8 +34,9 @@ enum Gives {
     Issues(&'static [&'static str]),
     // A quiet note without lines, with the print done.
     Done,
-    // The link is closed, and the print cancelled.
+    // The link is closed, and the print cancelled; or failed, if the printer was stopped.
     Unplugged,
+    Stopped,
     // A failure, with these lines and the print failed.
     Breaks(&'static [&'static str]),
 }
@@ -76,7 +78,7 @@ impl Gives {
     fn fact(self) -> LinkFact {
         match self {
             Gives::Finds(fact) => fact,
-            Gives::Unplugged => LinkFact::Closed,
+            Gives::Unplugged | Gives::Stopped => LinkFact::Closed,
             Gives::Breaks(_) => LinkFact::Failed,
             _ => LinkFact::Quiet,
         }
@@ -93,7 +95,7 @@ impl Gives {
         let outcome = match self {
             Gives::Done => Outcome::Done,
             Gives::Unplugged => Outcome::Cancelled,
-            Gives::Breaks(_) => Outcome::Failed,
+            Gives::Breaks(_) | Gives::Stopped => Outcome::Failed,
             _ => return None,
         };
         Some(Ending { print: 1, outcome })

@@ -1,6 +1,6 @@
 //! Lists of asks.
 use byte_text::Name;
-use octo_asks::{Ask, AskList, Request};
+use octo_asks::{Ask, AskList, BlobList, Request};
 use octo_outside::Blob;
 use std::alloc::Global;
 use std::process::Abort;
@@ -41,6 +41,14 @@ pub(super) fn versions(rt: &impl Abort, alloc: Global, asks: &mut AskList, count
     for _ in 0..count {
         add(rt, alloc, asks, ROOT, Request::Version);
     }
+}
+
+// The line that stops the printer.
+pub(super) fn stop(rt: &impl Abort, alloc: Global) -> Request {
+    let mut texts = BlobList::new(alloc);
+    let text = Blob::from_slice(alloc, b"M112").expect(rt, "no memory");
+    assert!(rt; texts.push(text).is_ok());
+    Request::Lines { texts }
 }
 
 // To store a file, to print it, and perhaps to select it.

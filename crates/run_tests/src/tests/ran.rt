@@ -2,7 +2,9 @@
 ghost use Rattle.std.specs.Prelude.{◌≡◌};
 ghost use Rattle.octo_asks.specs.Memory.{new_counter};
 
-use super::seen::{Seen, SeenEntry, entry_of};
+use super::seen::{Seen, SeenEntry, entry_of, own_moment};
+use super::slow_counter::SlowCounter;
+use job_desk::State;
 use octo_asks::{AskList, Entry, MemoryCounter};
 use octo_house::House;
 use octo_house_run::run;
@@ -29,7 +31,7 @@ fn counter_of(rt: &impl Abort, alloc: Global, asks: AskList) -> MemoryCounter
 pub(super) struct Ran {
     calls: u64,
     house: House,
-    counter: MemoryCounter,
+    counter: SlowCounter,
     link: MemoryLink,
     keeper: MemoryKeeper,
     shelf: MemoryShelf,
@@ -43,15 +45,38 @@ impl Ran {
         asks: AskList,
         fails: &[u64],
     ) -> Ran {
-        let mut counter = counter_of(rt, alloc, asks);
+        Ran::with(rt, alloc, asks, fails, "p", 0, false)
+    }
+
+    // Runs a new host that connects by itself to a printer at this port, over these asks; this number of rounds passes before each.
+    pub(super) fn connecting(
+        rt: &(impl Wait + Abort),
+        alloc: Global,
+        asks: AskList,
+        port: &str,
+        rounds: u64,
+    ) -> Ran {
+        Ran::with(rt, alloc, asks, &[], port, rounds, true)
+    }
+
+    fn with(
+        rt: &(impl Wait + Abort),
+        alloc: Global,
+        asks: AskList,
+        fails: &[u64],
+        port: &str,
+        rounds: u64,
+        connects: bool,
+    ) -> Ran {
+        let mut counter = SlowCounter::new(counter_of(rt, alloc, asks), rounds);
         let mut keeper = keeper_of(alloc, no_rows(alloc), fails).expect(rt, "no memory");
         let mut shelf = shelf_of(alloc, &[]).expect(rt, "no memory");
         let mut house = house_of(alloc, "any", 30_000, &mut keeper, &mut shelf).expect(
             rt, "no host",
         );
-        let mut link = link_at(alloc, "p", FateList::new(alloc)).expect(rt, "no memory");
+        let mut link = link_at(alloc, port, FateList::new(alloc)).expect(rt, "no memory");
         assert!(rt; !link.is_up());
-        let mut clock = MemoryClock::new(100, 10);
+        let mut clock = MemoryClock::new(100, if connects { 1_000 } else { 10 });
         let calls = run(
             rt,
             &mut house,
@@ -60,6 +85,7 @@ impl Ran {
             &mut clock,
             &mut keeper,
             &mut shelf,
+            connects,
         );
         Ran {
             calls,
@@ -80,6 +106,33 @@ impl Ran {
 
     pub(super) fn entries(&self) -> &[Entry] {
         self.counter.entries().unwrap_or(&[])
+    }
+
+    // The moments at which the host asked for a connection by itself, these at most. The others stay 0.
+    pub(super) fn own_moments<const N: usize>(&self) -> [u64; N] {
+        let mut moments = [0; N];
+        let mut count = 0;
+        for entry in self.entries() {
+            if let Some(moment) = own_moment(entry) {
+                if count < N {
+                    moments[count] = moment;
+                    count += 1;
+                }
+            }
+        }
+        moments
+    }
+
+    // Whether the connection was shown in this state.
+    pub(super) fn shows(&self, state: State) -> bool {
+        for entry in self.entries() {
+            if let SeenEntry::Call(_, _, Seen::Connection(shown)) = entry_of(entry) {
+                if shown == state {
+                    return true;
+                }
+            }
+        }
+        false
     }
 
     // The entry at a place of the history, counted from 0.

@@ -40,6 +40,18 @@ fn seen_of(answer: &Answer) -> Seen {
     }
 }
 
+// The moment of an own ask of the host.
+pub(super) fn own_moment(entry: &Entry) -> Option<u64> {
+    match entry {
+        Entry::Call {
+            worker: 4,
+            moment,
+            ..
+        } => Some(*moment),
+        _ => None,
+    }
+}
+
 pub(super) fn entry_of(entry: &Entry) -> SeenEntry {
     match entry {
         Entry::Call {

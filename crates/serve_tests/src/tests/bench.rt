@@ -90,6 +90,7 @@ impl Bench {
             &mut self.shelf,
             doors,
             PATIENCE,
+            false,
         ) {
             Ok(served) => (served.calls, served.doors_held),
             Err(_) => panic!(rt; "no memory"),

@@ -22,15 +22,26 @@ fn change() -> Result<Change, Fail> {
     Ok(Change::PutUser(user("ana", 1, &["users", "operators"], true)?))
 }
 
+// What each of these changes returns, after the earlier ones.
+fn commit_all<K: Keeper>(alloc: Global, keeper: &mut K, changes: &[Change; 3]) -> [bool; 3] {
+    let [first, second, third] = changes;
+    [
+        keeper.commit(alloc, first).is_ok(),
+        keeper.commit(alloc, second) == Err(KeeperFault::Failed),
+        keeper.commit(alloc, third).is_ok(),
+    ]
+}
+
+// A user's name is taken, and a change after that refusal is made: no transaction was left open.
 #[test]
 fn ample(rt: HostRuntime) -> Result<(), Fail> {
-    let change = change()?;
+    let changes = [
+        change()?,
+        change()?,
+        Change::PutUser(user("ben", 2, &[], true)?),
+    ];
     let mut keeper = empty_keeper(rt.alloc())?;
-    assert_eq!(rt; keeper.commit(rt.alloc(), &change), Ok(()));
-    assert_eq!(rt;
-        keeper.commit(rt.alloc(), &change),
-        Err(KeeperFault::Failed)
-    );
+    assert!(rt; commit_all(rt.alloc(), &mut keeper, &changes) == [true, true, true]);
     Ok(())
 }
 

@@ -1,7 +1,7 @@
 //! Replies as a client reads them, to the byte.
 use super::*;
 use crate::tests::conn_of;
-use octo_api_replies::{direct_bytes, fault_bytes};
+use octo_api_refusals::{direct_bytes, fault_bytes};
 use octo_api_routes::{BodyFault, Direct, MediaFault, Member, Methods};
 use octo_http::{HttpReply, MessageFault, write_reply};
 

@@ -14,8 +14,8 @@ const PAGE_END: &[u8] = b"</script>\n</body>\n</html>\n";
 const NO_ICON: &[u8] =
     b"HTTP/1.1 204 No Content\r\nConnection: close\r\nCache-Control: max-age=86400\r\n\r\n";
 
-const BAD_METHOD: &[u8] =
-    b"HTTP/1.1 405 Method Not Allowed\r\nConnection: close\r\nContent-Length: 0\r\n\r\n";
+const BAD_METHOD: &[u8] = b"HTTP/1.1 405 Method Not Allowed\r\nConnection: close\r\n\
+      Content-Length: 0\r\nAllow: GET, HEAD\r\n\r\n";
 
 // Whether the reply to a message begins and ends so. To ask the host would show that it has ended.
 fn shows(alloc: Global, input: &[u8], begin: &[u8], end: &[u8]) -> Result<bool, AllocError> {
@@ -64,7 +64,13 @@ fn no_icon(rt: HostRuntime) -> Result<(), Fail> {
 #[test]
 fn other_methods(rt: HostRuntime) -> Result<(), Fail> {
     let alloc = rt.alloc();
-    assert!(rt; replies(alloc, b"HEAD / HTTP/1.1\r\n\r\n", BAD_METHOD)?);
+    assert!(rt;
+        replies(
+            alloc,
+            b"PUT / HTTP/1.1\r\nContent-Length: 0\r\n\r\n",
+            BAD_METHOD
+        )?
+    );
     assert!(rt;
         replies(
             alloc,
@@ -73,6 +79,25 @@ fn other_methods(rt: HostRuntime) -> Result<(), Fail> {
         )?
     );
     assert!(rt; replies(alloc, b"get /favicon.ico HTTP/1.1\r\n\r\n", BAD_METHOD)?);
+    Ok(())
+}
+
+const METHODS: &[u8] = b"HTTP/1.1 204 No Content\r\nConnection: close\r\nAllow: GET, HEAD\r\n\r\n";
+
+// The reply to HEAD is the head of the reply to GET.
+#[test]
+fn heads_and_options(rt: HostRuntime) -> Result<(), Fail> {
+    let alloc = rt.alloc();
+    assert!(rt;
+        shows(
+            alloc,
+            b"HEAD / HTTP/1.1\r\n\r\n",
+            PAGE_HEAD,
+            b"\r\nCache-Control: no-cache\r\n\r\n"
+        )?
+    );
+    assert!(rt; replies(alloc, b"HEAD /favicon.ico HTTP/1.1\r\n\r\n", NO_ICON)?);
+    assert!(rt; replies(alloc, b"OPTIONS /index.html HTTP/1.1\r\n\r\n", METHODS)?);
     Ok(())
 }
 

@@ -155,7 +155,7 @@ fn settings(rt: HostRuntime) {
 }
 
 // The ends of a session by its own rules, each with its text.
-const ENDS: [(SessionEnd, &[u8]); 6] = [
+const ENDS: [(SessionEnd, &[u8]); 7] = [
     (
         SessionEnd::NoAnswer { silent: 5 },
         b"session ended: no answer, 5 limits\n",
@@ -179,6 +179,10 @@ const ENDS: [(SessionEnd, &[u8]); 6] = [
         b"session ended: ok for 8, 7 expected\n",
     ),
     (SessionEnd::Restarted, b"session ended: printer restarted\n"),
+    (
+        SessionEnd::LostOk { limits: 20 },
+        b"session ended: an ok is missing, 20 limits\n",
+    ),
     (
         SessionEnd::NumbersUsed {
             issued: 1_999_999_999,

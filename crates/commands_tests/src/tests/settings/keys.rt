@@ -5,7 +5,7 @@ use std::process::Abort;
 use std::test::Fail;
 
 // A key of the printer that is out of its range, or of the wrong kind.
-const PRINTERS: [(&str, Why, &str); 15] = [
+const PRINTERS: [(&str, Why, &str); 17] = [
     ("window = 0", Why::Range, "printer.window"),
     ("window = 17", Why::Range, "printer.window"),
     ("window = 4.0", Why::Kind, "printer.window"),
@@ -21,6 +21,8 @@ const PRINTERS: [(&str, Why, &str); 15] = [
     ("material = ''", Why::Range, "printer.material"),
     ("material = 'P L A'", Why::Range, "printer.material"),
     ("material = 1", Why::Kind, "printer.material"),
+    ("connect = 1", Why::Kind, "printer.connect"),
+    ("connect = 'true'", Why::Kind, "printer.connect"),
 ];
 
 #[test]

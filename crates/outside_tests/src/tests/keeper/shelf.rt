@@ -33,6 +33,22 @@ fn size_listed(alloc: Global, shelf: &mut MemoryShelf) -> Option<u64> {
     Some(list.as_slice().first()?.1)
 }
 
+// The size of the file, by a call of its own.
+fn size(rt: &impl Abort, shelf: &mut MemoryShelf) -> Result<Option<u64>, ShelfFault> {
+    shelf.size(&file(rt))
+}
+
+// The third call fails, which is to tell the size of the file. It has one before, and none once the file is removed.
+#[test]
+fn sizes(rt: HostRuntime) {
+    let alloc = rt.alloc();
+    let mut shelf = shelf(&rt, alloc, 3);
+    assert_eq!(rt; size(&rt, &mut shelf), Ok(Some(4)));
+    assert_eq!(rt; size(&rt, &mut shelf), Err(ShelfFault::Failed));
+    assert_eq!(rt; removes(&rt, alloc, &mut shelf), Ok(()));
+    assert_eq!(rt; size(&rt, &mut shelf), Ok(None));
+}
+
 // The second call fails, which is to remove the file.
 #[test]
 fn ample_shelf(rt: HostRuntime) {

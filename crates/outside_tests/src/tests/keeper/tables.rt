@@ -6,8 +6,9 @@ use octo_access::{Admin, UserRow, digest_of};
 use octo_keeper::{Change, Keeper, KeeperFault, MemoryKeeper, Tables};
 use octo_outside::CallList;
 use print_queue::{Ending, Outcome, PrintRow, QueueEntry};
-use std::alloc::Global;
+use std::alloc::{AllocError, Global};
 use std::process::Abort;
+use std::test::Fail;
 
 // ana's entry of two copies.
 fn entry(rt: &impl Abort) -> QueueEntry {
@@ -162,4 +163,99 @@ fn ample_prints(rt: HostRuntime) {
     assert!(rt; copies_left(&keeper) == Some(1));
     assert!(rt; outcome(&keeper, 0) == Some(Outcome::Cancelled));
     assert!(rt; outcome(&keeper, 1) == Some(Outcome::Done));
+}
+
+// An entry's user, name, priority and arrival.
+type Row = (&'static str, &'static str, u8, u32);
+
+// Queues in their order, and whether a host can begin with each.
+const QUEUES: [(&[Row], bool); 6] = [
+    (&[], true),
+    (
+        &[
+            ("bob", "job-1", 9, 3),
+            ("ana", "job-2", 9, 4),
+            ("bob", "job-2", 1, 1),
+            ("ana", "job-1", 1, 2),
+        ],
+        true,
+    ),
+    // One name is the beginning of the other, and of user and name together the bytes are the same.
+    (
+        &[("ana", "b", 9, 3), ("an", "ab", 5, 1), ("ana", "bc", 1, 2)],
+        true,
+    ),
+    // The same arrival.
+    (
+        &[
+            ("bob", "job-1", 9, 3),
+            ("ana", "job-1", 5, 1),
+            ("ana", "job-2", 1, 3),
+        ],
+        false,
+    ),
+    // The same user and name.
+    (
+        &[
+            ("ana", "job-1", 9, 3),
+            ("bob", "job-1", 5, 1),
+            ("ana", "job-1", 1, 2),
+        ],
+        false,
+    ),
+    (&[("ana", "job-1", 5, 1), ("ana", "job-1", 5, 1)], false),
+];
+
+fn entry_of(rt: &impl Abort, row: &Row) -> QueueEntry {
+    let mut entry = entry(rt);
+    entry.user = Name::from_text(row.0).expect(rt, "a long name");
+    entry.name = Name::from_text(row.1).expect(rt, "a long name");
+    entry.priority = row.2;
+    entry.arrival = row.3;
+    entry
+}
+
+// Whether a keeper loads tables with these entries.
+fn loads(rt: &impl Abort, alloc: Global, rows: &[Row]) -> Result<bool, AllocError> {
+    let mut tables = Tables::empty(alloc);
+    for row in rows {
+        tables.queue.push(entry_of(rt, row))?;
+    }
+    let mut keeper = MemoryKeeper::new(tables, CallList::new(alloc));
+    Ok(keeper.load(alloc).is_ok())
+}
+
+#[test]
+fn queues(rt: HostRuntime) -> Result<(), Fail> {
+    for (rows, want) in QUEUES {
+        assert_eq!(rt; loads(&rt, rt.alloc(), rows)?, want);
+    }
+    Ok(())
+}
+
+// One of ana's entries, with this number in its name.
+fn numbered(rt: &impl Abort, alloc: Global, number: u32) -> Result<QueueEntry, AllocError> {
+    let mut entry = entry(rt);
+    let text = format!(in alloc; "job-{number}")?;
+    entry.name = Name::from_text(&text).expect(rt, "a long name");
+    entry.arrival = number;
+    Ok(entry)
+}
+
+// Whether a keeper loads tables with this number of ana's entries.
+fn loads_many(rt: &impl Abort, alloc: Global, count: u32) -> Result<bool, AllocError> {
+    let mut tables = Tables::empty(alloc);
+    for number in 0..count {
+        tables.queue.push(numbered(rt, alloc, number)?)?;
+    }
+    let mut keeper = MemoryKeeper::new(tables, CallList::new(alloc));
+    Ok(keeper.load(alloc).is_ok())
+}
+
+// A user has at most 64 entries.
+#[test]
+fn many_entries(rt: HostRuntime) -> Result<(), Fail> {
+    assert!(rt; loads_many(&rt, rt.alloc(), 64)?);
+    assert!(rt; !loads_many(&rt, rt.alloc(), 65)?);
+    Ok(())
 }

@@ -1,5 +1,10 @@
-//! Prints over a link of whose calls one fails, and over a prompt one.
+//! Prints over a link of whose calls one fails, over one that loses a reply, and over a prompt one.
+ghost use Rattle.std.specs.Prelude.{◌≡◌, false};
+ghost use Rattle.printer_link.specs.Memory.{link_world};
+
 use super::*;
+use octo_outside::calls_of;
+use test_links::LossyLink;
 
 // The call of the link that fails, and how many lines were sent and executed before it.
 #[derive(Clone, Copy)]
@@ -145,5 +150,29 @@ fn enough_turns(rt: HostRuntime) -> Result<(), Fail> {
     };
     let printed = print_plainly(rt.alloc(), &asked)?;
     assert_eq!(rt; printed.end, PrintEnd::Done);
+    Ok(())
+}
+
+// A window of one line, and the `ok` of the only command is lost.
+fn print_without_an_ok(alloc: Global, link: &mut LossyLink) -> Result<PrintEnd, Fail>
+    requires { (link_world link.old).linked ≡ false }
+{
+    let asked = Asked {
+        rest: 1_000,
+        ..PLAIN
+    };
+    let mut session = plain_session(alloc, Scripts::new(alloc), 1)?;
+    print_over(alloc, &mut session, link, &asked)
+}
+
+// The command is sent again after each of twenty limits. In each limit but the first the printer asks for the line after it.
+#[test]
+fn lost_ok(rt: HostRuntime) -> Result<(), Fail> {
+    let lost = calls_of(rt.alloc(), &[2])?;
+    let mut link = LossyLink::new(link_of(rt.alloc(), &SOUND)?, lost);
+    let end = print_without_an_ok(rt.alloc(), &mut link)?;
+    assert_eq!(rt; end, PrintEnd::Ended(SessionEnd::LostOk { limits: 20 }));
+    assert_eq!(rt; link.link().sends(), 22);
+    check_first(&rt, link.link(), &["G28"]);
     Ok(())
 }
