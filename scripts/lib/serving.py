@@ -132,6 +132,8 @@ class Host:
         self.process = None
         # The words of a program that starts the host, as strace.
         self.before = []
+        # The path of a file for its standard error, which else is that of the check.
+        self.errors = None
         self.extra = extra
         self.set_printer(printer_port)
 
@@ -144,7 +146,8 @@ class Host:
     def start(self):
         self.port = free_port()
         words = [*self.before, self.program, "serve", "127.0.0.1:%d" % self.port, self.files, self.database, "--settings", self.settings]
-        self.process = subprocess.Popen(words, stdout=open(self.output, "wb"))
+        errors = open(self.errors, "wb") if self.errors else None
+        self.process = subprocess.Popen(words, stdout=open(self.output, "wb"), stderr=errors)
         until("the host answers", lambda: self.answers() or self.process.poll() is not None)
         if self.process.poll() is not None:
             raise SystemExit("the host ended: status %d, %r" % (self.process.returncode, open(self.output, "rb").read()))

@@ -7,7 +7,7 @@ import struct
 import sys
 
 sys.path.insert(0, "scripts/lib")
-from serving import Host, Printer, form, message, until, with_folder  # noqa: E402
+from serving import Host, Printer, exchange, form, message, until, with_folder  # noqa: E402
 
 # The longest head, and the most fields in one.
 MOST_HEAD, MOST_FIELDS = 16384, 64
@@ -149,6 +149,72 @@ def hostile(host):
     check("there were a thousand", count >= 1000, count)
 
 
+def named(host):
+    """Messages whose status is the one that the worked cases name, and what they leave in the folder."""
+    upload = lambda name: message("POST", "/api/files/local", host.key, *form([("file", name, b"G28\n")]))  # noqa: E731
+    posted = lambda *fields, body=b"": head(b"POST /api/job HTTP/1.1", *fields, body=body, key=host.key)  # noqa: E731
+    long_head = b"GET /api/job HTTP/1.1\r\nX-Pad: "
+    brackets = b"[" * 200
+    rows = [
+        ("a head of 16,385 bytes without an end", long_head + b"a" * (MOST_HEAD + 1 - len(long_head)), 431),
+        ("a head of 65 fields", head(b"GET /api/job HTTP/1.1", *[b"X-A: 1"] * (MOST_FIELDS - 1), key=host.key), 431),
+        ("a body of 68,157,441 bytes", posted(b"Content-Length: 68157441", body=b"a" * 5000), 413),
+        ("a chunk of FFFFFFFF bytes", posted(b"Transfer-Encoding: chunked", body=b"FFFFFFFF\r\n{}"), 413),
+        ("a chunk whose size has 17 digits", posted(b"Transfer-Encoding: chunked", body=b"00000000000000002\r\n{}\r\n0\r\n\r\n"), 400),
+        ("a length and chunks", posted(b"Content-Length: 2", b"Transfer-Encoding: chunked", body=b"2\r\n{}\r\n0\r\n\r\n"), 400),
+        ("an ignored member of 1e400", posted(b"Content-Type: application/json", b"Content-Length: 30", body=b'{"command":"cancel","x":1e400}'), 400),
+        ("200 brackets", posted(b"Content-Type: application/json", b"Content-Length: 200", body=brackets), 400),
+        ("a name without a print ending", upload("../../etc/passwd"), 415),
+        ("a path of two full stops", head(b"DELETE /api/files/local/%2e%2e HTTP/1.1", key=host.key), 404),
+        ("a name of two full stops", upload("..gcode"), 201),
+    ]
+    for name, data, wanted in rows:
+        found = send(host.port, data)
+        check("%s: status %d" % (name, wanted), found == wanted, found)
+    check("it is stored as _.gcode", os.listdir(host.files) == ["_.gcode"], os.listdir(host.files))
+    check("and deleted", host.ask("DELETE", "/api/files/local/_.gcode").status == 204)
+
+
+def holders(folder, keys):
+    """The files below a folder that hold one of the keys."""
+    paths = [os.path.join(at, name) for at, _, names in os.walk(folder) for name in names]
+    return [path for path in paths for data in [open(path, "rb").read()] if any(key in data for key in keys)]
+
+
+def keys(folder):
+    """No key, right or wrong, reaches a reply, an output or a file."""
+    printer = Printer(folder)
+    host = Host(folder, printer.port)
+    host.errors = os.path.join(folder, "errors")
+    host.start()
+    wrong, user = "wrongkey0123456789", "anakey0123456789"
+    try:
+        host.connect()
+        replies = [host.post("/api/access/users", {"name": "ana", "key": user, "groups": ["users"]})]
+        shown = [host.key, user, wrong, wrong[:-1] + '"', "short"]
+        paths = ["/api/job", "/api/files", "/api/access/users", "/api/nothing", "/api/system/commands/core/shutdown"]
+        for key in shown:
+            bearer = "Authorization: Bearer " + key
+            for path in paths[:-1] if key == host.key else paths:
+                method = "POST" if path == paths[-1] else "GET"
+                replies += [exchange(host.port, message(method, path, key))]
+                replies += [exchange(host.port, message(method, path + "?apikey=" + key.replace('"', "%22"), "", fields=[bearer]))]
+                replies += [exchange(host.port, ("%s %s?apikey=%s HTTP/1.1\r\n\r\n" % (method, path, key)).encode())]
+            body, kind = form([("file", key + ".gcode" if key == "short" else "a.stl", b"G28\n")])
+            replies += [exchange(host.port, message("POST", "/api/files/local", key, body, kind))]
+        replies += [host.ask("PUT", "/api/access/users/ana", b'{"key":"%s"}' % wrong.encode(), "application/json")]
+        found = [key.encode() for key in shown[:3]]
+        status, text = host.shut_down()
+        check("a host that knew three keys ends as asked", status == 0, (status, text))
+        told = [reply.head + reply.body for reply in replies if any(key in reply.head + reply.body for key in found)]
+        check("no key is in any of %d replies" % len(replies), not told, told[:2])
+        check("no key is in an output or a file", not holders(folder, found), holders(folder, found))
+        printer.end()
+    finally:
+        host.kill()
+        printer.kill()
+
+
 def vanishing(host):
     """Connections that are reset in a head, in a body and in a reply, and ones that are closed at once."""
     whole = message("GET", "/api/files", host.key)
@@ -176,6 +242,7 @@ def attacks(folder):
         rows = host.ask("GET", "/api/files").body
         descriptors, before = host.descriptors(), memory(host)
         hostile(host)
+        named(host)
         vanishing(host)
         settled = until("no descriptor is left", lambda: host.descriptors() <= descriptors, 10)
         check("no descriptor is left", settled)
@@ -190,4 +257,5 @@ def attacks(folder):
 
 
 with_folder(attacks)
+with_folder(keys)
 sys.exit(failed)

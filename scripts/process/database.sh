@@ -35,8 +35,21 @@ sqlite_row() {
 prints='print 1 ana hollow_box.gcode commands 218 done\nprint 2 ana hollow_box.gcode commands 218 done\n'
 refused='not opened: no database, another schema, or in use\n'
 
+# name, a file
+private_row() {
+    mode=$(stat -c %a "$2")
+    if [ "$mode" = 600 ]; then
+        echo "ok: $1"
+    else
+        echo "failed: $1: mode $mode"
+        failed=1
+    fi
+}
+
 new=$work/new.db
+umask 000
 tool_row "a new database" "$new" 0 'users 0\nentries 0\nprints 0\n'
+private_row "it is its owner's alone, whatever the mask" "$new"
 tool_row "two print records are added" "$new prints 2" 0 'added 2 prints\n'
 tool_row "the database is opened again" "$new" 0 "users 0\nentries 0\nprints 2\n$prints"
 
@@ -48,6 +61,9 @@ sleep 2
 kill -KILL "$started"
 wait "$started" 2>/dev/null
 started=
+private_row "so is the database of a killed program" "$killed"
+private_row "and its log" "$killed-wal"
+umask 022
 if [ -s "$killed-wal" ]; then
     echo "ok: a killed program leaves its log"
 else

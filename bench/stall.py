@@ -1,0 +1,165 @@
+"""Measures a host beside callers that ask much, or ask slowly, for bench/stall.sh, and prints each round."""
+
+import os
+import socket
+import sqlite3
+import statistics
+import sys
+import threading
+import time
+
+FOLDER, ROUNDS = sys.argv[1], int(sys.argv[2])
+# The parts that are left out: "queue".
+SKIPPED = sys.argv[3:]
+# serve.py reads its own arguments as it is imported.
+sys.argv = [sys.argv[0], FOLDER, "3", str(ROUNDS)]
+sys.path.insert(0, os.path.dirname(__file__))
+import serve  # noqa: E402
+from serve import Load, Peer, host, load  # noqa: E402
+from serving import until  # noqa: E402
+
+ENTRIES = 64_000
+LARGE = 64 * 1024 * 1024
+LINE = b"G1 X100 Y100 E1\n"
+# The lines of a print, and after how many seconds it is cancelled.
+LINES, SECONDS = 6000, 15
+
+
+class Callers:
+    """Some callers that ask the same again and again, until they are ended."""
+
+    def __init__(self, octo, path, count):
+        self.octo, self.path = octo, path
+        self.ends = False
+        self.calls = 0
+        self.threads = [threading.Thread(target=self.run, daemon=True) for _ in range(count)]
+        for thread in self.threads:
+            thread.start()
+
+    def run(self):
+        while not self.ends:
+            if self.octo.ask("GET", self.path).status != 200:
+                raise SystemExit("refused: " + self.path)
+            self.calls += 1
+
+    def end(self):
+        self.ends = True
+        for thread in self.threads:
+            thread.join()
+
+
+def print_rate(octo, peer, name):
+    """Lines a second of a print, of its first seconds if it takes longer."""
+    content = b"".join(b"G1 X%03d Y%03d E%d\n" % (n % 200, n * 7 % 200, n % 10) for n in range(LINES))
+    before, began = peer.lines, time.monotonic()
+    if octo.upload(name, content, True).status != 201:
+        raise SystemExit("the upload was refused")
+    while octo.state() != "Operational" and time.monotonic() < began + SECONDS:
+        time.sleep(0.05)
+    rate = (peer.lines - before) / (time.monotonic() - began)
+    octo.post("/api/job", {"command": "cancel"})
+    return rate
+
+
+def prints_beside(octo, peer, name, path, count):
+    """Lines a second of a print alone, and beside these callers, by turns."""
+    rates = {False: [], True: []}
+    calls = 0
+    for number in range(ROUNDS):
+        for beside in (False, True):
+            callers = Callers(octo, path, count) if beside else None
+            rates[beside].append(print_rate(octo, peer, "%s%d%d.gcode" % (name, number, beside)))
+            if callers:
+                callers.end()
+                calls += callers.calls
+            until("the print is over", lambda: octo.state() == "Operational", pause=0.05)
+    alone, beside = (statistics.median(rates[kind]) for kind in (False, True))
+    print("a print beside %d x GET %s: %.0f of %.0f lines a second, %.1f %% lost, %d calls; load %s" % (count, path, beside, alone, 100 * (1 - beside / alone), calls, load()), flush=True)
+
+
+def answers_beside(octo, what, connections):
+    """The times of answers to a caller with a key, in milliseconds, while these connections are open."""
+    times = []
+    for _ in range(200):
+        began = time.monotonic()
+        if octo.ask("GET", "/api/version").status != 200:
+            raise SystemExit("refused beside " + what)
+        times.append(1000 * (time.monotonic() - began))
+        time.sleep(0.002)
+    times.sort()
+    print("an answer beside %s: median %.2f ms, the longest of 200 %.2f ms; load %s" % (what, times[100], times[-1], load()), flush=True)
+    for conn in connections:
+        conn.close()
+
+
+def opened(octo, count, start):
+    """So many connections that have sent these bytes."""
+    connections = []
+    for _ in range(count):
+        connections.append(socket.create_connection(("127.0.0.1", octo.port), timeout=60))
+        connections[-1].sendall(start)
+    time.sleep(0.5)
+    return connections
+
+
+def asked(octo, count):
+    """Answers a second at this number of connections."""
+    serve.CONNECTIONS = count
+    return Load(octo.port, "200", "/api/version", octo.key)
+
+
+def queue_of(octo):
+    """Puts a full queue into the database of a host that has ended: 1,000 users with 64 entries each."""
+    db = sqlite3.connect(octo.database)
+    db.executemany(
+        "INSERT INTO entries (user, name, file, priority, arrival, copies, remaining, material) VALUES (?, ?, 'a.gcode', ?, ?, 1, 1, 'any')",
+        (("user-%d" % (n % 1000), "job-%d" % n, n * 7 % 101, n + 1) for n in range(ENTRIES)),
+    )
+    db.commit()
+    db.close()
+
+
+def begins():
+    octo = host("queue", 9)
+    octo.shut_down()
+    times = []
+    for queued in (False, True):
+        if queued:
+            queue_of(octo)
+        began = time.monotonic()
+        try:
+            octo.start()
+            times.append("%.2f s" % (time.monotonic() - began))
+        except SystemExit as fault:
+            times.append(str(fault))
+        octo.kill()
+    print("a host begins: without entries %s; with %d entries %s; load %s" % (times[0], ENTRIES, times[1], load()), flush=True)
+
+
+def main():
+    if "queue" not in SKIPPED:
+        begins()
+    peer = Peer(True)
+    paced = host("paced", peer.port)
+    try:
+        with open(os.path.join(paced.files, "large.gcode"), "wb") as out:
+            out.write(LINE * (LARGE // len(LINE)))
+        for number in range(900):
+            open(os.path.join(paced.files, "small-%d.gcode" % number), "wb").write(LINE)
+        paced.kill()
+        paced.start()
+        answers_beside(paced, "nothing", [])
+        answers_beside(paced, "60 silent connections", opened(paced, 60, b""))
+        answers_beside(paced, "60 connections with a part of a head", opened(paced, 60, b"GET / HTTP/1.1\r\n"))
+        for count in (1, 8):
+            print("with the link down, %d connections: %s" % (count, asked(paced, count)), flush=True)
+        paced.connect()
+        prints_beside(paced, peer, "file", "/api/files/local/large.gcode", 1)
+        prints_beside(paced, peer, "files", "/api/files/local/large.gcode", 4)
+        prints_beside(paced, peer, "list", "/api/files", 4)
+    finally:
+        paced.kill()
+
+
+if __name__ == "__main__":
+    main()

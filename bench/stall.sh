@@ -1,0 +1,12 @@
+#!/bin/sh
+# Measures what other callers take from a print, and from a caller with a key: the lines a second of a print at the pace of 250,000 baud
+# alone and beside readers of a large file and of a long list; the time of an answer beside connections that are silent or have sent a part
+# of a head; and how long a host with a queue of 64,000 entries takes to begin. The program is the one that `scripts/build octo` leaves.
+# Usage: bench/stall.sh [ROUNDS [queue]], 3 rounds if none are given; with `queue` without the last of these
+set -eu
+cd "$(dirname "$0")/.."
+[ -x crates/octo/out/octo ] || { echo "build the program first: scripts/build octo" >&2; exit 1; }
+folder=$(mktemp -d)
+trap 'rm -rf "$folder"' EXIT
+cc -O2 -pthread -o "$folder/plain_load" bench/plain_load.c
+python3 -B bench/stall.py "$folder" "${1:-3}" ${2:-}
