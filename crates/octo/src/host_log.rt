@@ -7,7 +7,8 @@ use std::io::Print;
 // Doors over TCP whose refusals are logged.
 pub(crate) type HostDoors<R> = Doors<LoggedDoor<TcpDoor<R>, HostLog>>;
 
-// The standard error for a host that serves, and nothing for another command. It doesn't record what was written.
+// The standard error for a host that listens, and nothing where no host is or it never began: then the cause of that is all that is
+// said. It doesn't record what was written.
 #[derive(Drop)]
 pub(crate) struct HostLog {
     system: HostRuntime,
@@ -46,16 +47,17 @@ impl Sink for HostLog {
     }
 }
 
-// These doors with a log each.
+// These doors with a log each, if the host has one.
 pub(crate) fn with_log<D: Door + Drop>(
     system: &HostRuntime,
     doors: Doors<D>,
+    is_on: bool,
 ) -> Doors<LoggedDoor<D, HostLog>> {
     let Doors { a, b, c, d } = doors;
     Doors {
-        a: LoggedDoor::new(a, HostLog::new(system, true)),
-        b: LoggedDoor::new(b, HostLog::new(system, true)),
-        c: LoggedDoor::new(c, HostLog::new(system, true)),
-        d: LoggedDoor::new(d, HostLog::new(system, true)),
+        a: LoggedDoor::new(a, HostLog::new(system, is_on)),
+        b: LoggedDoor::new(b, HostLog::new(system, is_on)),
+        c: LoggedDoor::new(c, HostLog::new(system, is_on)),
+        d: LoggedDoor::new(d, HostLog::new(system, is_on)),
     }
 }

@@ -71,7 +71,7 @@ fn boot_ms_of(system: &HostRuntime, command: &Command) -> Option<u16> {
 }
 
 // Carries out the command that the arguments are, over the system's files and sockets, and returns the program's exit status. A host
-// that serves, which has a folder, has a log.
+// that listens has a log.
 // `rt` starts threads, waits and listens; `system` opens what else the program works with. The program has one handle for both.
 fn carry_out<
     R: Net<Listener = TcpListener, Stream = TcpStream>
@@ -92,15 +92,15 @@ fn carry_out<
     keeper: &mut K,
     folder: &Name,
     doors: &mut HostDoors<R>,
+    is_logged: bool,
 ) -> ExitCode {
-    let serves = !folder.as_bytes().is_empty();
     let mut files = FileSource::new(*system);
     let port_link = PortLink::new(SystemPorts::new(*system, system.alloc()), boot_ms);
     let print_link = with_progress(system, view_of(system, words), port_link);
-    let mut link = LoggedLink::new(print_link, HostLog::new(system, serves));
+    let mut link = LoggedLink::new(print_link, HostLog::new(system, is_logged));
     let mut clock = SystemClock::new(*system);
     let folder_shelf = FolderShelf::new(*system, folder);
-    let mut shelf = LoggedShelf::new(folder_shelf, HostLog::new(system, serves));
+    let mut shelf = LoggedShelf::new(folder_shelf, HostLog::new(system, is_logged));
     let status = octo(
         rt,
         system.alloc(),
@@ -140,20 +140,19 @@ fn serve_with<
     folder: &Name,
     database: &Name,
 ) -> ExitCode {
-    let mut log = HostLog::new(system, true);
-    let mut doors = match TcpDoor::four(rt, system.alloc(), address.as_str()) {
-        Ok(doors) => with_log(system, doors),
+    let bound = match TcpDoor::four(rt, system.alloc(), address.as_str()) {
+        Ok(doors) => doors,
         Err(AllocError) => return end_with(out, &HostReport::Command(Report::NoMemory)),
     };
-    let opened = Opened::new(open_keeper(system, database));
+    let listens = bound.a.address().is_some();
+    let mut doors = with_log(system, bound, listens);
+    let mut log = HostLog::new(system, listens);
     let mut keeper = LoggedKeeper::new(
-        opened,
-        HostLog::new(system, true),
+        Opened::new(open_keeper(system, database)),
+        HostLog::new(system, listens),
         SystemClock::new(*system),
     );
-    if doors.a.door().address().is_some() {
-        log_serving(&mut log, address);
-    }
+    log_serving(&mut log, address);
     // If that fails, the host shows those prints as failed all the same.
     let _ = settle_prints(system.alloc(), &mut keeper);
     let code = carry_out(
@@ -165,6 +164,7 @@ fn serve_with<
         &mut keeper,
         folder,
         &mut doors,
+        listens,
     );
     log_stopped(&mut log);
     match keeper.into_keeper().into_keeper() {
@@ -192,7 +192,7 @@ fn carry_out_unserved<
     out: &mut StdSink<HostRuntime>,
 ) -> ExitCode {
     let mut keeper = AbsentKeeper::new();
-    let mut doors = with_log(system, absent_doors(rt));
+    let mut doors = with_log(system, absent_doors(rt), false);
     carry_out(
         rt,
         system,
@@ -202,6 +202,7 @@ fn carry_out_unserved<
         &mut keeper,
         &Name::new(),
         &mut doors,
+        false,
     )
 }
 
