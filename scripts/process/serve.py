@@ -10,7 +10,7 @@ import threading
 import time
 
 sys.path.insert(0, "scripts/lib")
-from serving import LIMIT, Host, Printer, form, message  # noqa: E402
+from serving import LIMIT, Host, Printer, form, message, until  # noqa: E402
 
 failed = False
 LAYER = b"".join(b"G1 X%d Y%d E%d.5 ; move\n" % (n % 200, n * 7 % 200, n) for n in range(200))
@@ -175,11 +175,60 @@ def killed_print(folder, after):
         check("an upload after it", host.upload("small.gcode", small, True).status, 201)
         host.until_state("Operational")
         check("the end after it", host.shut_down()[0], 0)
+        stored = {"Done": "1\n", "Failed": "3\n"}.get("".join(outcomes))
+        check_sqlite(host, "its record in the database", "SELECT outcome FROM prints WHERE number = 1;", stored)
         check("the next print", new.end() == commands(small), True)
         new.kill()
     finally:
         host.kill()
         printer.kill()
+
+
+class SilentPrinter(threading.Thread):
+    """Acknowledges the hello and nothing after it. Keeps each line with the moment at which it came, and the moment of the end."""
+
+    def __init__(self):
+        super().__init__(daemon=True)
+        self.listener = socket.create_server(("127.0.0.1", 0))
+        self.port = self.listener.getsockname()[1]
+        self.lines = []
+        self.closed = None
+        self.start()
+
+    def run(self):
+        conn, _ = self.listener.accept()
+        try:
+            for line in conn.makefile("rb"):
+                if not self.lines:
+                    conn.sendall(b"ok\n")
+                self.lines.append((time.monotonic(), line))
+        finally:
+            self.closed = time.monotonic()
+
+
+def stopped_print(folder):
+    """M112 during a print whose printer is silent and whose window is full: it is the next line at the printer and the last one."""
+    printer = SilentPrinter()
+    host = Host(folder, printer.port).start()
+    try:
+        host.connect()
+        check("an upload to stop", host.upload("long.gcode", LAYER, True).status, 201)
+        until("a full window", lambda: len(printer.lines) > 1, pause=0.1)
+        time.sleep(0.5)
+        before = len(printer.lines)
+        reply = host.ask("POST", "/api/printer/command", b'{"command":"M112"}', "application/json")
+        answered = time.monotonic()
+        check("the stop", reply.status, 204)
+        until("the end of the link", lambda: printer.closed)
+        moment, line = printer.lines[-1]
+        check("the last line", (len(printer.lines), line.split(b" ", 1)[1].split(b"*")[0]), (before + 1, b"M112"))
+        check("the stop at the printer within 100 ms", moment - answered < 0.1, True)
+        host.until_state("Error")
+        prints = host.ask("GET", "/api/prints").json()["prints"]
+        check("its record", [p["outcome"] for p in prints], ["Failed"])
+        check("the end after it", host.shut_down()[0], 0)
+    finally:
+        host.kill()
 
 
 def quiet(work):
@@ -189,17 +238,19 @@ def quiet(work):
         pass  # the host was killed
 
 
+def check_sqlite(host, name, statement, wanted):
+    """What the stock sqlite3 prints over the host's database."""
+    if not shutil.which("sqlite3"):
+        print("skipped: %s: sqlite3 is missing" % name, flush=True)
+        return
+    run = subprocess.run(["sqlite3", host.database, statement], capture_output=True, timeout=LIMIT)
+    check(name, run.stdout.decode(), wanted)
+
+
 def tables(folder):
     """What the host kept, as the stock sqlite3 reads it, and while the host runs that it is locked."""
     printer = Printer(folder)
     host = Host(folder, printer.port).start()
-
-    def check_sqlite(name, statement, wanted):
-        if not shutil.which("sqlite3"):
-            print("skipped: %s: sqlite3 is missing" % name, flush=True)
-            return
-        run = subprocess.run(["sqlite3", host.database, statement], capture_output=True, timeout=LIMIT)
-        check(name, run.stdout.decode(), wanted)
 
     try:
         host.connect()
@@ -208,13 +259,13 @@ def tables(folder):
         check("an upload", host.upload("a.gcode", LAYER, True).status, 201)
         host.until_state("Operational")
         check("an entry", host.post("/api/queue", {"name": "job-1", "file": "a.gcode", "priority": 5}).status, 201)
-        check_sqlite("sqlite3 while the host runs", "SELECT count(*) FROM prints;", "")
+        check_sqlite(host, "sqlite3 while the host runs", "SELECT count(*) FROM prints;", "")
         check("the end", host.shut_down()[0], 0)
         printer.end()
-        check_sqlite("the database", "PRAGMA integrity_check; SELECT schema FROM meta;", "ok\n2\n")
-        check_sqlite("its users", "SELECT name, length(digest), groups, active FROM users;", "ana|32|users|1\n")
-        check_sqlite("its entries", "SELECT user, name, file, priority FROM entries;", "root|job-1|a.gcode|5\n")
-        check_sqlite("its prints", "SELECT number, user, file, commands, outcome FROM prints;", "1|root|a.gcode|200|1\n")
+        check_sqlite(host, "the database", "PRAGMA integrity_check; SELECT schema FROM meta;", "ok\n2\n")
+        check_sqlite(host, "its users", "SELECT name, length(digest), groups, active FROM users;", "ana|32|users|1\n")
+        check_sqlite(host, "its entries", "SELECT user, name, file, priority FROM entries;", "root|job-1|a.gcode|5\n")
+        check_sqlite(host, "its prints", "SELECT number, user, file, commands, outcome FROM prints;", "1|root|a.gcode|200|1\n")
         host.start()
         check("the user again", [u["name"] for u in host.ask("GET", "/api/access/users").json()["users"]], ["ana"])
         words = [host.program, "serve", "127.0.0.1:9", host.files, host.database, "--settings", host.settings]
@@ -261,7 +312,7 @@ def free_and_taken():
 
 
 def main():
-    checks = [slicer_upload, silent_peers, vanishing_peers, many_requests, tables, refusals]
+    checks = [slicer_upload, silent_peers, vanishing_peers, many_requests, stopped_print, tables, refusals]
     checks += [lambda folder, after=after: killed_print(folder, after) for after in (0, 0.02, 0.1, 0.3, 0.7)]
     for work in checks:
         with tempfile.TemporaryDirectory() as folder:

@@ -96,10 +96,13 @@ def uploads(host):
     with open(os.path.join(host.files, "a.gcode.part"), "wb") as part:
         part.write(b"G2")
     check("one beside a part", host.upload("a.gcode", FIRST).status, 201)
-    check("the file", open(os.path.join(host.files, "a.gcode"), "rb").read(), FIRST)
+    path = os.path.join(host.files, "a.gcode")
+    check("the file", open(path, "rb").read(), FIRST)
+    check("its mode, whatever the mask", oct(os.stat(path).st_mode & 0o777), "0o640")
 
 
 def main():
+    os.umask(0)
     why = cannot_trace()
     if why:
         print("skipped: the system's calls of an upload: " + why, flush=True)
