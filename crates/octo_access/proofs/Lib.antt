@@ -1,4 +1,5 @@
 pub mod Changed
+pub mod Digests
 pub mod Found
 pub mod Inserted
 pub mod Refused

@@ -10,7 +10,7 @@ use crate::groups::Groups;
 use crate::names::is_among;
 use crate::permission::Permission;
 use crate::refusal::UserRefusal;
-use crate::row::{Admin, Digest, UserRow};
+use crate::row::{Admin, Digest, UserRow, are_equal};
 use byte_text::Name;
 
 /// Which groups there are, and who the admin is.
@@ -43,7 +43,7 @@ impl Policy {
         ensures { option_copied result ≡ admin_with_key digest.now self.now.admin }
     {
         match &self.admin {
-            Some(admin) if admin.digest == *digest => Some(admin),
+            Some(admin) if are_equal(&admin.digest, digest) => Some(admin),
             _ => None,
         }
     }

@@ -1,5 +1,6 @@
 //! Users as rows, the admin, and the digests of their keys.
 ghost use Rattle.std.specs.Prelude.{◌≡◌, ◌≤◌, length};
+ghost use Rattle.std.specs.Str.{bytes_eq};
 ghost use Rattle.sha2.specs.Sha256.{sha256};
 ghost use Rattle.octo_access.specs.Rights.{admin_row, is_caller};
 ghost use Rattle.octo_access.specs.Rows.{is_named, has_digest};
@@ -41,6 +42,19 @@ pub fn digest_of(key: &[u8]) -> Digest
     Sha256::digest(key)
 }
 
+// Whether two digests are equal. It reads every byte of both whatever they hold, so that how long it takes tells nothing of
+// a key.
+#[tactic(auto, using(crate::proofs::Digests::difference_step))]
+pub(crate) fn are_equal(one: &Digest, other: &Digest) -> bool
+    ensures { result ≡ bytes_eq one.now other.now }
+{
+    let mut difference = 0;
+    for place in 0..32 {
+        difference |= one[place] ^ other[place];
+    }
+    difference == 0
+}
+
 /// The same names again; takes no memory.
 pub fn copy_names(names: &GroupNames) -> GroupNames
     ensures { result ≡ names.now }
@@ -75,7 +89,7 @@ impl UserRow {
     pub(crate) fn has_digest(&self, digest: &Digest) -> bool
         ensures { result ≡ has_digest digest.now self.now }
     {
-        self.digest == *digest
+        are_equal(&self.digest, digest)
     }
 
     // Whether that key's owner is this user, and active.
