@@ -1,5 +1,5 @@
 -- The forms in memory.
-use Rattle.std.specs.Prelude.{Bool, List, if◌then◌else◌}
+use Rattle.std.specs.Prelude.{Bool, List, Option, if◌then◌else◌}
 use Rattle.octo_outside.specs.Memory.{CallsData, one_more, is_listed}
 use Rattle.octo_keeper.specs.declared.tables.Tables.{Tables}
 use Rattle.octo_keeper.specs.declared.shelf.ShelfFile.{ShelfFile}
@@ -7,6 +7,8 @@ use Rattle.octo_keeper.specs.declared.shelf.ShelfFile.{ShelfFile}
 -- a keeper in memory
 pub record KeeperData : Type 0 where
   pub tables : Tables
+  -- those of the last backup
+  pub saved : Option Tables
   pub calls : CallsData
 
 -- a shelf in memory

@@ -47,6 +47,9 @@ pub trait Keeper {
     /// The tables, if the keeper records them: `None` for one over a real file.
     ghost tables: { Self → Option Tables };
 
+    /// The tables of the last backup, if the keeper records them.
+    ghost saved: { Self → Option Tables };
+
     /// How many calls failed.
     ghost faults: { Self → ℕ };
 
@@ -64,6 +67,15 @@ pub trait Keeper {
         ensures ok { OnOk result
             (tables self.new ≡ option_map (changed change.now) (tables self.old)) }
         ensures err { OnErr result (tables self.new ≡ tables self.old) }
+
+        ensures counts { Counts (IsErrOf result fault.Failed) (faults self.old) (faults self.new) }
+        ensures steady { (IsErrOf result fault.Failed → ⊥) → faults self.new ≡ faults self.old };
+
+    /// Writes a copy of the tables as they are kept to the keeper's place for it. The tables stay. After a fault the place has the
+    /// former copy or this one.
+    fn backup(&mut self, alloc: Global) -> Result<(), KeeperFault>
+        ensures ok { OnOk result (saved self.new ≡ tables self.old) }
+        ensures stays { tables self.new ≡ tables self.old }
 
         ensures counts { Counts (IsErrOf result fault.Failed) (faults self.old) (faults self.new) }
         ensures steady { (IsErrOf result fault.Failed → ⊥) → faults self.new ≡ faults self.old };
