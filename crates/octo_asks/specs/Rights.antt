@@ -40,6 +40,7 @@ first_needed (request.DropOwn name) = Some permission.FilesSelect
 first_needed (request.DropOther user name) = Some permission.Admin
 first_needed request.NextEntry = Some permission.Print
 first_needed request.ListPrints = Some permission.Status
+first_needed request.Backup = Some permission.System
 first_needed request.Shutdown = Some permission.System
 first_needed request.Leave = None
 first_needed request.AutoConnect = None

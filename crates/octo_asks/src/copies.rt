@@ -76,6 +76,7 @@ fn copy_plain(request: &Request) -> Request
         Request::ListQueue => Request::ListQueue,
         Request::NextEntry => Request::NextEntry,
         Request::ListPrints => Request::ListPrints,
+        Request::Backup => Request::Backup,
         Request::Shutdown => Request::Shutdown,
         Request::Leave => Request::Leave,
         Request::AutoConnect => Request::AutoConnect,

@@ -128,6 +128,8 @@ pub enum Request {
     NextEntry,
     /// The caller's prints, all prints for one with the permission ADMIN.
     ListPrints,
+    /// To write a copy of the database beside it (System).
+    Backup,
     /// To shut the host down (System).
     Shutdown,
     /// A worker's own request, which no message has: it asks no more.

@@ -41,7 +41,7 @@ fn first_needed(request: &Request) -> Option<Permission>
         | Request::PutUser { .. }
         | Request::ChangeUser { .. }
         | Request::DropOther { .. } => Permission::Admin,
-        Request::Shutdown => Permission::System,
+        Request::Backup | Request::Shutdown => Permission::System,
         Request::Caller | Request::Leave | Request::AutoConnect => return None,
     })
 }
