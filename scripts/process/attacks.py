@@ -2,9 +2,11 @@
 
 import os
 import re
+import resource
 import socket
 import struct
 import sys
+import time
 
 sys.path.insert(0, "scripts/lib")
 from serving import Host, Printer, exchange, form, message, until, with_folder  # noqa: E402
@@ -13,6 +15,8 @@ from serving import Host, Printer, exchange, form, message, until, with_folder  
 MOST_HEAD, MOST_FIELDS = 16384, 64
 # How much the host's memory may grow over all attacks, in bytes: a worker keeps room for a body.
 MOST_GROWTH = 32 << 20
+# How long all attacks may take, in seconds.
+MOST_SECONDS = 60
 REFUSED = {400, 404, 405, 408, 411, 413, 415, 431}
 failed = False
 
@@ -91,9 +95,19 @@ def bodies(key):
     for lines in (257, 5000):
         it = b'{"commands":[' + b",".join([b'"M117 a"'] * lines) + b"]}"
         yield head(b"POST /api/printer/command HTTP/1.1", b"Content-Type: application/json", b"Content-Length: %d" % len(it), body=it, key=key)
-    for it in (b'"G28\\nM112"', b'"G28\\u0000"', b'"M110 N5"', b'"' + b"a" * 80 + b'"', b"7", b"null", b"[]", b"{}"):
-        it = b'{"command":' + it + b"}"
-        yield head(b"POST /api/printer/command HTTP/1.1", b"Content-Type: application/json", b"Content-Length: %d" % len(it), body=it, key=key)
+    for it in (b"7", b"null", b"[]", b"{}"):
+        yield command(it, key)
+
+
+def command(value, key):
+    body = b'{"command":' + value + b"}"
+    return head(b"POST /api/printer/command HTTP/1.1", b"Content-Type: application/json", b"Content-Length: %d" % len(body), body=body, key=key)
+
+
+def lines(key):
+    """Commands that aren't one line for the printer. These alone are calls of the house, which refuses them."""
+    for it in (b'"G28\\nM112"', b'"G28\\u0000"', b'"M110 N5"', b'"' + b"a" * 80 + b'"'):
+        yield command(it, key)
 
 
 def forms(key):
@@ -139,18 +153,19 @@ def send(port, data):
 
 
 def hostile(host):
-    """Each message is refused, or gets no reply as it isn't whole."""
-    groups = {it.__name__: list(it(host.key)) for it in (framing, control_bytes, start_lines, sizes, bodies, forms, drawn)}
+    """Each message is refused, or gets no reply as it isn't whole. Returns how many of them are calls of the house."""
+    groups = {it.__name__: list(it(host.key)) for it in (framing, control_bytes, start_lines, sizes, bodies, lines, forms, drawn)}
     count = 0
     for name, sent in groups.items():
         bad = [(data[-120:], found) for data in sent for found in [send(host.port, data)] if found not in REFUSED | {0}]
         count += len(sent)
         check("%d messages of the kind %s are refused" % (len(sent), name), not bad, bad[:3])
     check("there were a thousand", count >= 1000, count)
+    return len(groups["lines"])
 
 
 def named(host):
-    """Messages whose status is the one that the worked cases name, and what they leave in the folder."""
+    """Messages whose status is the one that the worked cases name, and what they leave in the folder. One is a call of the house."""
     upload = lambda name: message("POST", "/api/files/local", host.key, *form([("file", name, b"G28\n")]))  # noqa: E731
     posted = lambda *fields, body=b"": head(b"POST /api/job HTTP/1.1", *fields, body=body, key=host.key)  # noqa: E731
     long_head = b"GET /api/job HTTP/1.1\r\nX-Pad: "
@@ -173,6 +188,7 @@ def named(host):
         check("%s: status %d" % (name, wanted), found == wanted, found)
     check("it is stored as _.gcode", os.listdir(host.files) == ["_.gcode"], os.listdir(host.files))
     check("and deleted", host.ask("DELETE", "/api/files/local/_.gcode").status == 204)
+    return 1
 
 
 def holders(folder, keys):
@@ -215,18 +231,15 @@ def keys(folder):
         printer.kill()
 
 
-def vanishing(host):
-    """Connections that are reset in a head, in a body and in a reply, and ones that are closed at once."""
-    whole = message("GET", "/api/files", host.key)
-    for data in [b"", whole[:20], whole, message("POST", "/api/job", host.key, b"x" * 5000)[:-10]] * 50:
-        conn = socket.create_connection(("127.0.0.1", host.port), timeout=20)
-        conn.setsockopt(socket.SOL_SOCKET, socket.SO_LINGER, struct.pack("ii", 1, 0))
-        conn.sendall(data)
-        conn.close()
-    check("200 reset connections", host.ask("GET", "/api/version", seconds=20).status == 200)
-    for _ in range(2000):
-        socket.create_connection(("127.0.0.1", host.port), timeout=20).close()
-    check("2,000 connections", host.ask("GET", "/api/version", seconds=20).status == 200)
+class Counting(Host):
+    """A host, and how many calls of its house the check itself made."""
+
+    calls = 0
+
+    def ask(self, *words, **options):
+        reply = super().ask(*words, **options)
+        self.calls += reply.status != 404
+        return reply
 
 
 def memory(host):
@@ -234,28 +247,116 @@ def memory(host):
     return int(found[1]) * 1024
 
 
-def attacks(folder):
+def check_as_before(host, descriptors, before):
+    settled = until("no descriptor is left", lambda: host.descriptors() <= descriptors, 10)
+    check("no descriptor is left", settled)
+    check("memory as before", memory(host) - before < MOST_GROWTH, memory(host) - before)
+
+
+def check_log(host):
+    """No peer puts a control byte, a byte beyond ASCII or a line of its own into the log."""
+    lines = open(host.errors, "rb").read().split(b"\n")
+    known = (b"serving at ", b"printer: ", b"refused: ", b"file _.gcode: ", b"stopped")
+    odd = [line for line in lines if line and not (re.fullmatch(rb"[ -~]*", line) and line.startswith(known))]
+    check("the log has its own lines alone", not odd, odd[:3])
+
+
+def messages(folder):
+    """Hostile messages to a host whose printer is connected."""
     printer = Printer(folder)
-    host = Host(folder, printer.port).start()
+    host = Counting(folder, printer.port)
+    host.errors = os.path.join(folder, "errors")
+    host.start()
     try:
         host.connect()
         rows = host.ask("GET", "/api/files").body
         descriptors, before = host.descriptors(), memory(host)
-        hostile(host)
-        named(host)
-        vanishing(host)
-        settled = until("no descriptor is left", lambda: host.descriptors() <= descriptors, 10)
-        check("no descriptor is left", settled)
-        check("memory as before", memory(host) - before < MOST_GROWTH, memory(host) - before)
+        asked = hostile(host) + named(host)
+        check_as_before(host, descriptors, before)
         check("nothing was stored", host.ask("GET", "/api/files").body == rows and os.listdir(host.files) == [], os.listdir(host.files))
         status, text = host.shut_down()
         check("the host ends as asked", status == 0, (status, text))
+        check("no other message was a call", text == b"served %d calls\n" % (host.calls + asked), (text, host.calls, asked))
         check("nothing reached the printer", (found := printer.end()) == [], found)
+        check_log(host)
     finally:
         host.kill()
         printer.kill()
 
 
-with_folder(attacks)
+def connect(host):
+    return socket.create_connection(("127.0.0.1", host.port), timeout=20)
+
+
+def answers(host):
+    return host.ask("GET", "/api/version", seconds=20).status == 200
+
+
+def reset(host):
+    """Connections that are reset in a head, in a body and in a reply, and ones that are closed at once."""
+    whole = message("GET", "/api/files", host.key)
+    for data in [b"", whole[:20], whole, message("POST", "/api/job", host.key, b"x" * 5000)[:-10]] * 50:
+        conn = connect(host)
+        conn.setsockopt(socket.SOL_SOCKET, socket.SO_LINGER, struct.pack("ii", 1, 0))
+        conn.sendall(data)
+        conn.close()
+    check("200 reset connections", answers(host))
+
+
+def half_closed(host):
+    """Connections whose peer sends no more in a head or a body, or takes no reply, and stays."""
+    whole = message("GET", "/api/files", host.key)
+    held = []
+    for data in [b"", whole[:20], message("POST", "/api/job", host.key, b"x" * 5000)[:-10]] * 30:
+        held.append(connect(host))
+        held[-1].sendall(data)
+        held[-1].shutdown(socket.SHUT_WR)
+    ends = {conn.recv(100) for conn in held}
+    check("90 half-closed connections have ended", ends == {b""}, ends)
+    for _ in range(30):
+        held.append(connect(host))
+        held[-1].shutdown(socket.SHUT_RD)
+        held[-1].sendall(whole)
+    check("30 more that take no reply", answers(host))
+    for conn in held:
+        conn.close()
+
+
+def many(host):
+    """2,000 connections one after the other, and 2,000 at the same time, of which the door keeps few."""
+    for _ in range(2000):
+        connect(host).close()
+    check("2,000 connections, one after the other", answers(host))
+    held = [connect(host) for _ in range(2000)]
+    check("2,000 connections at the same time", answers(host))
+    kept = host.descriptors()
+    check("most of them were closed", kept < 200, kept)
+    for conn in held:
+        conn.close()
+
+
+def connections(folder):
+    """Peers that vanish, and more of them than the door keeps."""
+    hard = resource.getrlimit(resource.RLIMIT_NOFILE)[1]
+    resource.setrlimit(resource.RLIMIT_NOFILE, (hard, hard))
+    host = Host(folder, 1)
+    host.errors = os.path.join(folder, "errors")
+    host.start()
+    try:
+        descriptors, before = host.descriptors(), memory(host)
+        for attack in (reset, half_closed, many):
+            attack(host)
+            check_as_before(host, descriptors, before)
+        status, text = host.shut_down()
+        check("the host ends as asked", status == 0, (status, text))
+    finally:
+        host.kill()
+
+
+began = time.monotonic()
+with_folder(messages)
+with_folder(connections)
 with_folder(keys)
+took = time.monotonic() - began
+check("all of it within %d seconds" % MOST_SECONDS, took < MOST_SECONDS, took)
 sys.exit(failed)
