@@ -1,5 +1,5 @@
 -- What the host's own call leaves and counts.
-use Rattle.std.proofs.Common.{◌≡◌, ℕ, Bool, true, false, List, [], ◌∷◌, Option, None, refl, sym, ◌∙◌, arith}
+use Rattle.std.proofs.Common.{◌≡◌, ℕ, Bool, true, false, List, [], ◌∷◌, None, refl, sym, ◌∙◌, arith}
 use Rattle.std.proofs.lemmas.Bool.{false≢true}
 use Rattle.octo_outside.specs.Recorded.{Counts}
 use Rattle.octo_keeper.specs.declared.shelf.ShelfFile.{ShelfFile}

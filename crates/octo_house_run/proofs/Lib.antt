@@ -1,6 +1,7 @@
 pub mod Asking
 pub mod Connecting
 pub mod Noting
+pub mod Owning
 pub mod Printing
 pub mod Rounds
 pub mod Running

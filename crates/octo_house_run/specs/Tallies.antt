@@ -1,5 +1,5 @@
 -- What a run counts of its history.
-use Rattle.std.specs.Prelude.{◌≡◌, ℕ, ◌+◌, Bool, true, false, ◌||◌, ◌&&◌, not, nat_lt, min, Option, Some, None}
+use Rattle.std.specs.Prelude.{◌≡◌, ℕ, ◌+◌, Bool, false, ◌||◌, ◌&&◌, not, nat_lt, min, Option, Some, None}
 use Rattle.octo_outside.specs.Recorded.{last_count}
 use Rattle.job_desk.specs.Data.{Data}
 use Rattle.octo_asks.specs.History.{History}

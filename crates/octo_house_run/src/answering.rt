@@ -1,13 +1,16 @@
 //! Asks of a counter, answered by a host.
-ghost use Rattle.std.specs.Prelude.{◌≡◌, ◌&&◌, ℕ, List, Option, Some, None, false};
+ghost use Rattle.std.specs.Prelude.{◌≡◌, ◌&&◌, ◌==◌, ℕ, List, [], ◌∷◌, Option, Some, None, false, not};
 ghost use Rattle.octo_outside.specs.Recorded.{Became};
 ghost use Rattle.octo_asks.specs.declared.answer.Answer.{Answer};
 ghost use Rattle.octo_asks.specs.declared.request.Request.TheVariants.{Shutdown};
 ghost use Rattle.octo_house_rules.specs.Counted.{is_leave, is_counted, is_shutdown};
 ghost use Rattle.octo_keeper.specs.declared.shelf.ShelfFile.{ShelfFile};
-ghost use Rattle.octo_house.specs.State.{IsDeskAlone};
+ghost use Rattle.octo_asks.specs.History.{own_number};
+ghost use Rattle.octo_house.specs.State.{IsDeskAlone, session_of};
 ghost use Rattle.octo_house_run_proof.specs.Rounds.{AsksAt};
 ghost use Rattle.octo_house_run.specs.Asks.{AskLeaves};
+ghost use Rattle.octo_house_run.specs.Own.{AsksOfWorkers, Looks, own_moments};
+ghost use Rattle.octo_house_run.specs.Reconnecting.{is_due, seen_in};
 ghost use Rattle.octo_house_run.specs.Runs.{Leads};
 ghost use Rattle.octo_house_run.specs.Tallies.{AreOf};
 
@@ -61,12 +64,16 @@ fn asked_as(leaves: bool, counts: bool, shuts: bool, accepted: bool) -> Asked
 }
 
 // Whether a host connects by itself at a moment; it doesn't while a print is active.
-fn is_due(house: &House, reconnect: Reconnect, moment: u64) -> bool {
+fn is_due(house: &House, reconnect: Reconnect, moment: u64) -> bool
+    ensures { result ≡ (is_due moment reconnect && not (session_of house.now).desk.active) }
+{
     reconnect.is_due(moment) && house.session().desk().print().is_none()
 }
 
 // Sees in which state a host's desk is at a moment.
-fn see(house: &House, reconnect: &mut Reconnect, moment: u64) {
+fn see(house: &House, reconnect: &mut Reconnect, moment: u64)
+    ensures { reconnect.new ≡ seen_in (session_of house.now).desk.state moment reconnect.old }
+{
     *reconnect = reconnect.seen_in(house.session().desk().state(), moment);
 }
 
@@ -80,6 +87,8 @@ fn connect<C: Counter>(house: &mut House, counter: &mut C, moment: u64)
         (λ _ added. AreOf None added) }
     ensures asks { (keeper shelf : ℕ) → Became (C.past counter.old) (C.past counter.new)
         (λ _ added. AsksAt moment keeper keeper shelf shelf added) }
+    ensures own { Became (C.past counter.old) (C.past counter.new)
+        (λ _ added. own_moments added ≡ moment ∷ []) }
     ensures alone { IsDeskAlone house.old house.new }
     ensures given { C.given counter.new ≡ C.given counter.old }
     ensures closed { C.closed counter.new ≡ false }
@@ -104,6 +113,8 @@ fn connect_if_due<C: Counter>(
         (λ _ added. AreOf None added) }
     ensures asks { (keeper shelf : ℕ) → Became (C.past counter.old) (C.past counter.new)
         (λ _ added. AsksAt moment keeper keeper shelf shelf added) }
+    ensures own { Became (C.past counter.old) (C.past counter.new)
+        (λ _ added. Looks moment reconnect.old reconnect.new added) }
     ensures alone { IsDeskAlone house.old house.new }
     ensures given { C.given counter.new ≡ C.given counter.old }
     ensures closed { C.closed counter.new ≡ false }
@@ -138,6 +149,10 @@ pub(crate) fn answer_next<C: Counter, K: Keeper, S: Shelf>(
     ensures asks { Became (C.past counter.old) (C.past counter.new)
         (λ _ added. AsksAt moment (K.faults keeper.old) (K.faults keeper.new)
         (S.faults shelf.old) (S.faults shelf.new) added) }
+
+    // A host's own call is in it only if that was due.
+    ensures own { AsksOfWorkers C.given → Became (C.past counter.old) (C.past counter.new)
+        (λ _ added. Looks moment reconnect.old reconnect.new added) }
 
     // What stays.
     ensures rest { AskLeaves K.tables K.faults S.files S.faults
@@ -178,6 +193,8 @@ fn answer_ask<C: Counter, K: Keeper, S: Shelf>(
     ensures asks { Became (C.past counter.old) (C.past counter.new)
         (λ _ added. AsksAt moment (K.faults keeper.old) (K.faults keeper.new)
         (S.faults shelf.old) (S.faults shelf.new) added) }
+    ensures own { (worker == own_number) ≡ false
+        → Became (C.past counter.old) (C.past counter.new) (λ _ added. own_moments added ≡ []) }
     ensures rest { AskLeaves K.tables K.faults S.files S.faults
         keeper.old keeper.new shelf.old shelf.new house.old house.new }
     ensures given { C.given counter.new ≡ None }

@@ -9,6 +9,7 @@ ghost use Rattle.octo_house_rules.specs.Temps.{NotesTemps};
 ghost use Rattle.octo_house_rules.specs.Tied.{TiesLines};
 ghost use Rattle.octo_house_tables.specs.Kept.{KeepsRows};
 ghost use Rattle.octo_house.specs.State.{IsListed, session_of, tables_of};
+ghost use Rattle.octo_house_run.specs.Own.{AsksOfWorkers, ConnectsItself};
 ghost use Rattle.octo_house_run.specs.Runs.{HasRun, RunKeepsPrints, IsFresh, IsOver, ArePassed, begins};
 ghost use Rattle.octo_house_run.specs.Tallies.{is_over};
 
@@ -75,6 +76,10 @@ pub fn run<R: Wait, C: Counter, L: Link, T: Clock, K: Keeper, S: Shelf>(
     // What the printer made of each print, and what is said and sent of it.
     ensures prints { RunKeepsPrints (L.kind link.old) (C.past counter.old) (C.past counter.new)
         (S.files shelf.old) (L.past link.old) (L.past link.new) house.old }
+
+    // When it connects by itself, at a counter whose asks have other numbers than its own calls.
+    ensures own { AsksOfWorkers C.given → Became (C.past counter.old) (C.past counter.new)
+        (λ _ added. ConnectsItself connects added) }
 
     // How it came to its end.
     ensures over { Became (C.past counter.old) (C.past counter.new)

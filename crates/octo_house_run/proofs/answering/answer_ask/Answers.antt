@@ -1,4 +1,4 @@
-use Rattle.std.proofs.Common.{◌&&◌, inl, [], ◌∷◌, Option, Some, refl, sym, ap, subst, ◌∙◌}
+use Rattle.std.proofs.Common.{◌≡◌, ◌&&◌, inl, [], ◌∷◌, Option, Some, refl, sym, ap, subst, ◌∙◌}
 use Rattle.std.specs.Prelude.{IfSome}
 use Rattle.octo_outside.specs.Recorded.{Adds}
 use Rattle.octo_outside.proofs.Recorded.{became_so}
@@ -9,8 +9,10 @@ use Rattle.octo_house.specs.State.{known_of, session_of}
 use Rattle.octo_house_run.specs.declared.tally.Asked.{Asked}
 use Rattle.octo_house_run_proof.specs.Rounds.{AsksAt}
 use Rattle.octo_house_run_proof.proofs.Counting.{call_asks}
+use Rattle.octo_house_run.specs.Own.{own_moments}
 use Rattle.octo_house_run.specs.Tallies.{AreOf}
 use Rattle.octo_house_run.proofs.Asking.{call_walks}
+use Rattle.octo_house_run.proofs.Owning.{call_none}
 use Rattle.octo_house_run.proofs.Tallying.{call_counts}
 use Rattle.octo_house_run.proofs.answering.answer_ask.Goals as goal
 
@@ -49,3 +51,11 @@ returns-clause-asks g c =
     became_so past past' _ _ (subst Adds_by c.requires.given c.answer.ensures.past)
     (λ old added is. subst (λ (h : History). AsksAt c.args.moment keeper keeper' shelf shelf' h) (sym is)
     (call_asks c.args.moment keeper keeper' shelf shelf' c.args.worker c.args.ask c.ask-answer.result c.ask-answer.ensures.rest.keeper c.ask-answer.ensures.rest.shelf))
+
+pub returns-clause-own : goal.returns-clause-own
+returns-clause-own g c other =
+    let past = g.C.Counter.past c.args.counter.now in
+    let past' = g.C.Counter.past c.answer.new.self in
+    let Adds_by : Option Given → Type 0 = λ given. IfSome given (λ one. Adds past past' (entry.Call c.args.worker one.ask c.args.moment c.ask-answer.result ∷ [])) in
+    became_so past past' _ (λ _ added. own_moments added ≡ []) (subst Adds_by c.requires.given c.answer.ensures.past)
+    (λ old added is. ap own_moments is ∙ call_none c.args.worker c.args.ask c.args.moment c.ask-answer.result other)

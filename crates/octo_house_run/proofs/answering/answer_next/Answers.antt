@@ -1,9 +1,15 @@
-use Rattle.std.proofs.Common.{Option, Some, None, sym, subst, ◌∙◌, arith}
+use Rattle.std.proofs.Common.{◌≡◌, false, [], Option, Some, None, sym, ap, subst, ◌∙◌, arith}
+use Rattle.std.specs.Prelude.{◌==◌, IfSome}
+use Rattle.std.proofs.lemmas.Bool.{false≢true}
 use Rattle.octo_outside.specs.Recorded.{Became}
-use Rattle.octo_asks.specs.History.{History}
+use Rattle.octo_outside.proofs.Recorded.{became_so}
+use Rattle.octo_asks.specs.History.{History, ask_given, own_number}
+use Rattle.octo_asks.specs.declared.counter.Given.{Given}
+use Rattle.octo_house.specs.State.{session_of}
 use Rattle.octo_house_tables.specs.Data.{TablesData}
 use Rattle.octo_house_tables.specs.Kept.{IsKept}
 use Rattle.octo_house_run_proof.specs.Rounds.{AsksAt}
+use Rattle.octo_house_run.specs.Own.{Looks, own_moments}
 use Rattle.octo_house_run.specs.Runs.{Leads}
 use Rattle.octo_house_run.specs.Tallies.{AreOf}
 use Rattle.octo_house_run.proofs.answering.answer_next.Goals as goal
@@ -53,3 +59,25 @@ returns-in-Asked-clause-asks g c =
     subst (λ (h : Option History). Became h (g.C.Counter.past c.answer_ask-asked.new.counter) (λ _ added. AsksAt c.args.moment (g.K.Keeper.faults c.args.keeper.now)
     (g.K.Keeper.faults c.answer_ask-asked.new.keeper) (g.S.Shelf.faults c.args.shelf.now) (g.S.Shelf.faults c.answer_ask-asked.new.shelf) added))
     c.next.ensures.past c.answer_ask-asked.ensures.asks
+
+pub returns-in-Nothing-clause-own : goal.returns-in-Nothing-clause-own
+returns-in-Nothing-clause-own g c workers =
+    subst (λ (h : Option History). Became h (g.C.Counter.past c.connect_if_due.new.counter)
+    (λ _ added. Looks c.args.moment c.args.reconnect.now c.connect_if_due.new.reconnect added)) c.next.ensures.past c.connect_if_due.ensures.own
+
+pub returns-in-Asked-clause-own : goal.returns-in-Asked-clause-own
+returns-in-Asked-clause-own g c workers =
+    let mid = g.C.Counter.past c.next.new.self in
+    let after = g.C.Counter.past c.answer_ask-asked.new.counter in
+    let other : (c.in-Asked.worker == own_number) ≡ false =
+    subst (λ (given : Option Given). IfSome given (λ one. (one.worker == own_number) ≡ false)) (c.next.ensures.given ∙ ap ask_given c.in-Asked.is) (workers c.next.new.self) in
+    subst (λ (h : Option History). Became h after (λ _ added. Looks c.args.moment c.args.reconnect.now c.see.new.reconnect added)) c.next.ensures.past
+    (became_so mid after (λ _ added. own_moments added ≡ []) (λ _ added. Looks c.args.moment c.args.reconnect.now c.see.new.reconnect added)
+    (c.answer_ask-asked.ensures.own other)
+    (λ old added is. record {
+      state = (session_of c.answer_ask-asked.new.house).desk.state;
+      asks = false;
+      due = λ asks. absurd (false≢true asks);
+      waits = c.see.ensures;
+      moments = is;
+    }))

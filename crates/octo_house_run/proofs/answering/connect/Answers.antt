@@ -1,8 +1,9 @@
-use Rattle.std.proofs.Common.{[], ◌∷◌, Option, Some, None, refl, sym, ap, subst, ◌∙◌}
+use Rattle.std.proofs.Common.{◌≡◌, [], ◌∷◌, Some, None, refl, sym, ap, subst, ◌∙◌}
 use Rattle.octo_outside.proofs.Recorded.{became_so}
-use Rattle.octo_asks.specs.History.{History, own_number, own_ask, own_call}
+use Rattle.octo_asks.specs.History.{History, own_number, own_ask}
 use Rattle.octo_house.specs.State.{known_of, session_of}
 use Rattle.octo_house_run_proof.specs.Rounds.{AsksAt}
+use Rattle.octo_house_run.specs.Own.{own_moments}
 use Rattle.octo_house_run.specs.Tallies.{AreOf}
 use Rattle.octo_house_run.proofs.Asking.{call_walks}
 use Rattle.octo_house_run.proofs.Connecting.{own_leaves, own_asks, own_counts}
@@ -28,3 +29,8 @@ returns-clause-asks g c keeper shelf =
     became_so (g.C.Counter.past c.args.counter.now) (g.C.Counter.past c.own.new.self) _ _ c.own.ensures.past
     (λ old added is. subst (λ (h : History). AsksAt c.args.moment keeper keeper shelf shelf h) (sym is)
     (own_asks c.args.moment keeper shelf c.connect_itself-answer.result c.connect_itself-answer.ensures.plain.keeper c.connect_itself-answer.ensures.plain.shelf))
+
+pub returns-clause-own : goal.returns-clause-own
+returns-clause-own g c =
+    became_so (g.C.Counter.past c.args.counter.now) (g.C.Counter.past c.own.new.self) _ (λ _ added. own_moments added ≡ c.args.moment ∷ []) c.own.ensures.past
+    (λ old added is. ap own_moments is)

@@ -14,6 +14,7 @@ use Rattle.octo_outside.proofs.Recorded.{became_same}
 use Rattle.octo_house_run.proofs.Running.{begin_walks, walks_round, end_walks, tally_then, no_entry, over_by}
 use Rattle.octo_house_run.proofs.Rounds.{counted_round, counted_end, uses_round, uses_end, temps_round, temps_end_of}
 use Rattle.octo_house_print_proof.proofs.LineRecorded.{begin_in_step}
+use Rattle.octo_house_run.proofs.Owning.{waits_begin, waits_look, waits_none, turns_own, waits_end}
 use Rattle.octo_house_run.proofs.Printing.{run_prints}
 use Rattle.octo_house_run.proofs.Tying.{round_ties, hung_ties}
 use Rattle.octo_house_run.proofs.host_run.run.Goals as goal
@@ -42,6 +43,7 @@ loop-init g c =
       shelf = omega arith;
       steps = begin_in_step (g.L.Link.kind c.args.link.now) past (g.L.Link.past c.args.link.now) (session_of c.args.house.now)
           (record { down = c.requires.fresh.down; sound = c.requires.fresh.sound });
+      own = λ workers. waits_begin c.args.connects c.new_reconnect-reconnect.result past c.new_reconnect-reconnect.ensures;
     }
 
 pub loop-preserved : goal.loop-preserved
@@ -86,6 +88,9 @@ loop-preserved g c =
       steps = round_ties (g.L.Link.kind c.args.link.now) (g.L.Link.kind c.loop.link) i.kind first before mid after (g.L.Link.past c.args.link.now) (g.L.Link.past c.loop.link)
           (g.L.Link.past c.take_turn-heard.new.link) (session_of c.loop.house) (session_of c.answer_next-asked.new.house) (session_of c.take_turn-heard.new.house)
           moment _ _ _ _ i.steps a.asks a.rest.apart.sender a.rest.apart.up t.tied;
+      own = λ workers. waits_none c.args.connects c.answer_next-asked.new.reconnect moment first mid after
+          (waits_look c.args.connects c.loop.reconnect c.answer_next-asked.new.reconnect c.loop.moment moment (omega (arith, c.max-moment.ensures)) first before mid
+          (i.own workers) (a.own workers)) (turns_own moment _ _ _ _ _ _ mid after t.turns);
     }
 
 pub returns-then-is_over-clause-history : goal.returns-then-is_over-clause-history
@@ -201,6 +206,20 @@ returns-then-is_over-clause-moments g c =
     (subst (λ (at : Option ℕ). Timed start at c.loop.moment first before) (sym c.now.ensures.stays) c.loop.invariant.moments)
     (subst (λ (at : Option ℕ). IfSome at (λ now. c.now.result ≡ now)) (sym c.now.ensures.stays) c.now.ensures.now) c.max-moment.ensures
     c.answer_next-asked.ensures.asks c.take_turn-heard.ensures.turns)
+    c.close.ensures.past
+
+pub returns-then-is_over-clause-own : goal.returns-then-is_over-clause-own
+returns-then-is_over-clause-own g c workers =
+    let first = g.C.Counter.past c.args.counter.now in
+    let before = g.C.Counter.past c.loop.counter in
+    let mid = g.C.Counter.past c.answer_next-asked.new.counter in
+    let after = g.C.Counter.past c.take_turn-heard.new.counter in
+    let waits = c.answer_next-asked.new.reconnect in
+    let moment = c.max-moment.result in
+    waits_end c.args.connects waits moment first after (g.C.Counter.past c.close.new.self)
+    (waits_none c.args.connects waits moment first mid after
+    (waits_look c.args.connects c.loop.reconnect waits c.loop.moment moment (omega (arith, c.max-moment.ensures)) first before mid
+    (c.loop.invariant.own workers) (c.answer_next-asked.ensures.own workers)) (turns_own moment _ _ _ _ _ _ mid after c.take_turn-heard.ensures.turns))
     c.close.ensures.past
 
 pub returns-then-is_over-clause-tied : goal.returns-then-is_over-clause-tied

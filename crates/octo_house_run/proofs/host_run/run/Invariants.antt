@@ -9,6 +9,7 @@ use Rattle.octo_house_print_proof.specs.InStep.{InStep}
 use Rattle.octo_house_tables.specs.Kept.{KeepsRows}
 use Rattle.octo_house_rules.specs.Walks.{Walks}
 use Rattle.octo_house.specs.State.{IsListed, session_of, tables_of}
+use Rattle.octo_house_run.specs.Own.{AsksOfWorkers, Waits, own_moments}
 use Rattle.octo_house_run.specs.Runs.{stands_with, begins}
 use Rattle.octo_house_run.specs.Tallies.{tally_of}
 use Rattle.octo_house_run.proofs.host_run.run.Given as goal
@@ -39,4 +40,6 @@ invariant-loop g l = record {
   shelf : g.S.Shelf.faults l.initial.shelf ≤ g.S.Shelf.faults l.shelf;
   steps : InStep (g.L.Link.kind l.initial.link) (g.C.Counter.past l.initial.counter) (g.C.Counter.past l.counter) (g.L.Link.past l.initial.link) (g.L.Link.past l.link)
       (session_of l.house);
+  own : AsksOfWorkers g.C.Counter.given → Became (g.C.Counter.past l.initial.counter) (g.C.Counter.past l.counter)
+      (λ _ added. Waits l.initial.connects l.reconnect l.moment (own_moments added));
 }
