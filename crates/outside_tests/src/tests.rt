@@ -1,6 +1,7 @@
 //! A module for each crate that is tested.
 mod access;
 mod asks;
+mod bell;
 mod boot;
 mod doors;
 mod folder;
