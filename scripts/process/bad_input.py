@@ -25,7 +25,7 @@ def run_octo(*arguments):
 
 
 def octo(port, file):
-    return run_octo("print", port, file, "--turns", "2000")
+    return run_octo("print", port, file, "--turns", "1000")
 
 
 class Peer:
@@ -85,7 +85,7 @@ def main():
         good = os.path.join(folder, "a.gcode")
         with open(good, "wb") as file:
             file.write(b"G28\n")
-        used = b"turns used: 2000\n"
+        used = b"turns used: 1000\n"
         missing = os.path.join(folder, "b.gcode")
         # The status, the standard output, and the standard error.
         rows = [

@@ -50,6 +50,7 @@ fn join<R: Wait + Drop>(words: &Words, house: &mut Place, worker: WorkerEnd<R>)
 {
     let WorkerEnd {
         rt: _,
+        bell: _,
         table: _,
         seat,
         number: _,

@@ -5,6 +5,7 @@ ghost use Rattle.hand_over.specs.Ends.{AfterAsk};
 use crate::board::{Board, Place};
 use crate::waiting::{look_for_close, put_ask, wait_for_answer};
 use octo_asks::{Answer, Ask, Asker, Closed};
+use octo_outside_bell::Bell;
 use std::marker::Model;
 use std::sync::{Arc, Wait};
 
@@ -12,6 +13,8 @@ use std::sync::{Arc, Wait};
 #[derive(Drop)]
 pub struct WorkerEnd<R> {
     pub(crate) rt: R,
+    // It ends a wait of the house's thread.
+    pub(crate) bell: Bell,
     pub(crate) table: Arc<Board>,
     pub(crate) seat: Place,
     pub(crate) number: usize,
@@ -44,8 +47,8 @@ impl<R: Wait> Asker for WorkerEnd<R> {
 
     ghost saw_close = { λ e. e.view.saw_close };
 
-    /// Puts the ask into the worker's slot, and waits until the house has answered it, or has ended
-    /// and never took it.
+    /// Puts the ask into the worker's slot, rings, and waits until the house has answered it, or has
+    /// ended and never took it.
     fn ask(&mut self, ask: Ask) -> Result<Answer, Closed>
         ensures ok { IfOk result (λ answer.
             Finishes ask answer (Some self.old.view.mine) (Some self.new.view.mine)) }
@@ -59,6 +62,7 @@ impl<R: Wait> Asker for WorkerEnd<R> {
         ensures table { self.new.table ≡ self.old.table }
     {
         put_ask(&self.table.shared, &mut self.seat, self.number, ask);
+        self.bell.ring();
         wait_for_answer(
             &self.rt,
             &self.table.shared,

@@ -10,6 +10,7 @@ use crate::house_end::HouseEnd;
 use crate::plays::MakeSeat;
 use crate::worker_end::WorkerEnd;
 use atomic_table::Table;
+use octo_outside_bell::Bell;
 use std::alloc::{AllocError, Global};
 use std::sync::{Arc, Wait};
 
@@ -25,6 +26,7 @@ pub struct Workers<R> {
 // The end of the worker with this number, on this table.
 fn worker_end<R: Wait + Clone + Drop>(
     rt: &R,
+    bell: &Bell,
     table: &Arc<Board>,
     house: &mut Place,
     number: usize,
@@ -41,6 +43,7 @@ fn worker_end<R: Wait + Clone + Drop>(
     let seat = table.shared.split_seat::<MakeSeat>(house);
     Ok(WorkerEnd {
         rt,
+        bell: bell.copy(),
         table,
         seat,
         number,
@@ -49,10 +52,11 @@ fn worker_end<R: Wait + Clone + Drop>(
 }
 
 /// A house end and four worker ends on one table. Fails if out of memory.
-/// Each worker end keeps a copy of the runtime, since its `ask` waits.
+/// Each worker end keeps a copy of the runtime, since its `ask` waits, and one of the bell, which it rings after it has asked.
 pub fn ends<R: Wait + Clone + Drop>(
     rt: &R,
     alloc: Global,
+    bell: &Bell,
 ) -> Result<(HouseEnd, Workers<R>), AllocError>
     ensures house { IfOk result (λ made. made.0 ≡ new_house_end made.0.table) }
     ensures a { IfOk result (λ made. made.1.a ≡ new_worker_end made.0.table 0) }
@@ -63,10 +67,10 @@ pub fn ends<R: Wait + Clone + Drop>(
     let (table, mut seat) = Table::vacant(alloc, &[RUNS, IDLE, IDLE, IDLE, IDLE], SLOTS, &())?;
     let table = Arc::new(alloc, table)?;
     let workers = Workers {
-        a: worker_end(rt, &table, &mut seat, 0)?,
-        b: worker_end(rt, &table, &mut seat, 1)?,
-        c: worker_end(rt, &table, &mut seat, 2)?,
-        d: worker_end(rt, &table, &mut seat, 3)?,
+        a: worker_end(rt, bell, &table, &mut seat, 0)?,
+        b: worker_end(rt, bell, &table, &mut seat, 1)?,
+        c: worker_end(rt, bell, &table, &mut seat, 2)?,
+        d: worker_end(rt, bell, &table, &mut seat, 3)?,
     };
     let house = HouseEnd {
         table,

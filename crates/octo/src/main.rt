@@ -22,7 +22,8 @@ use octo_log::{LoggedKeeper, LoggedLink, LoggedShelf, log_serving, log_stopped};
 use octo_outside::{
     ArgumentsFault, Blob, FileSource, StdSink, SystemClock, WordList, arguments, write_all,
 };
-use octo_outside_doors::TcpDoor;
+use octo_outside_bell::{Ear, EarClock, bell_and_ear};
+use octo_outside_doors::{Doors, TcpDoor};
 use octo_serve_command::{HostReport, Opened, write_host_report};
 use octo_words::{Command, Remark, WordsFault, read_words, remark_on};
 use printer_link_socket::{PortLink, SystemPorts};
@@ -93,12 +94,14 @@ fn carry_out<
     folder: &Name,
     doors: &mut HostDoors<R>,
     is_logged: bool,
+    ear: Ear,
 ) -> ExitCode {
     let mut files = FileSource::new(*system);
-    let port_link = PortLink::new(SystemPorts::new(*system, system.alloc()), boot_ms);
+    let ports = SystemPorts::new(*system, system.alloc());
+    let port_link = PortLink::with_ear(ports, boot_ms, ear.copy());
     let print_link = with_progress(system, view_of(system, words), port_link);
     let mut link = LoggedLink::new(print_link, HostLog::new(system, is_logged));
-    let mut clock = SystemClock::new(*system);
+    let mut clock = EarClock::new(*system, ear);
     let folder_shelf = FolderShelf::new(*system, folder);
     let mut shelf = LoggedShelf::new(folder_shelf, HostLog::new(system, is_logged));
     let status = octo(
@@ -115,6 +118,17 @@ fn carry_out<
     );
     say_of_end(system, words, status.code);
     ExitCode::from(status.code)
+}
+
+// Doors at an address, and an ear for the bell that those ring who serve their connections. Fails if out of memory.
+fn open_doors<R: Net<Listener = TcpListener, Stream = TcpStream> + Copy>(
+    rt: &R,
+    system: &HostRuntime,
+    address: &Name,
+) -> Result<(Doors<TcpDoor<R>>, Ear), AllocError> {
+    let (bell, ear) = bell_and_ear(system, system.alloc())?;
+    let doors = TcpDoor::four(rt, system.alloc(), address.as_str(), &bell)?;
+    Ok((doors, ear))
 }
 
 // Serves at an address, over a folder and a database, which is closed at the end. A database that can't be opened, a missing
@@ -140,9 +154,8 @@ fn serve_with<
     folder: &Name,
     database: &Name,
 ) -> ExitCode {
-    let bound = match TcpDoor::four(rt, system.alloc(), address.as_str()) {
-        Ok(doors) => doors,
-        Err(AllocError) => return end_with(out, &HostReport::Command(Report::NoMemory)),
+    let Ok((bound, ear)) = open_doors(rt, system, address) else {
+        return end_with(out, &HostReport::Command(Report::NoMemory));
     };
     let listens = bound.a.address().is_some();
     let mut doors = with_log(system, bound, listens);
@@ -165,6 +178,7 @@ fn serve_with<
         folder,
         &mut doors,
         listens,
+        ear,
     );
     log_stopped(&mut log);
     match keeper.into_keeper().into_keeper() {
@@ -203,6 +217,7 @@ fn carry_out_unserved<
         &Name::new(),
         &mut doors,
         false,
+        Ear::deaf(),
     )
 }
 

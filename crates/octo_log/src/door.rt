@@ -11,6 +11,7 @@ use crate::conn::LoggedConn;
 use crate::line::{LogLine, log_line};
 use byte_text::{after, append, bounded_text};
 use octo_outside::{Failed, Sink};
+use octo_outside_bell::Bell;
 use octo_outside_doors::{Door, Knock};
 
 /// A door with a log: a line says of a message that is refused, with a status from 400 on, the status, the message's method and path,
@@ -274,5 +275,9 @@ impl<D: Door + Drop, G: Sink + Drop> Door for LoggedDoor<D, G> {
             status.as_slice(),
             cause.as_slice(),
         );
+    }
+
+    fn bell(&self) -> Bell {
+        self.door.bell()
     }
 }

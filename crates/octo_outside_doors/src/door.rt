@@ -4,6 +4,7 @@ ghost use Rattle.octo_outside.specs.Recorded.{Adds, Counts};
 ghost use Rattle.octo_outside_doors.specs.Doors.{ConnState, Comes, IsNew, IsEnded, state_of};
 
 use octo_outside::{Conn, Failed};
+use octo_outside_bell::Bell;
 
 /// What a door's call returned.
 #[derive(Drop)]
@@ -58,6 +59,10 @@ pub trait Door {
         ensures coming { coming self.new ≡ coming self.old }
         ensures has_failed { has_failed self.new ≡ has_failed self.old }
         ensures faults { faults self.new ≡ faults self.old };
+
+    /// The bell of this door. Who serves its connections rings it after each ask of the host, whose thread may wait for the
+    /// printer at that moment.
+    fn bell(&self) -> Bell;
 }
 
 /// The doors of four workers.

@@ -1,6 +1,7 @@
 //! A door in memory, some of whose calls fail or find nothing yet.
 use crate::{Door, Knock};
 use octo_outside::{CallList, Calls, Failed, ItemList, MemoryConn};
+use octo_outside_bell::Bell;
 use std::alloc::Global;
 use std::collections::VecDeque;
 use std::marker::Model;
@@ -166,5 +167,9 @@ impl Door for MemoryDoor {
             Ok(()) => {}
             Err(_) => self.keeps_all = false,
         }
+    }
+
+    fn bell(&self) -> Bell {
+        Bell::silent()
     }
 }

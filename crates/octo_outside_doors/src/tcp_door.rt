@@ -6,6 +6,7 @@ ghost use Rattle.octo_outside_doors.specs.Doors.{Each, IsNew, IsEnded};
 use crate::arrivals::{Arrival, Arrivals, address_of, next_of};
 use crate::{Door, DoorConn, Doors, Knock};
 use octo_outside::Failed;
+use octo_outside_bell::Bell;
 use std::alloc::{AllocError, Global};
 use std::io;
 use std::net::{Net, OpenListener, SocketAddr, TcpListener, TcpStream};
@@ -26,6 +27,7 @@ const WAIT: u64 = 10;
 pub struct TcpDoor<R: Net + Drop> {
     rt: R,
     arrivals: Option<Arc<Mutex<Arrivals>>>,
+    bell: Bell,
     faults: u64,
     has_failed: bool,
 }
@@ -50,7 +52,7 @@ impl<R: Net + Wait + Drop> TcpDoor<R> {
 }
 
 impl<R: Net<Listener = TcpListener, Stream = TcpStream> + Copy> TcpDoor<R> {
-    /// A door whose first call fails.
+    /// A door whose first call fails, with a bell that nobody hears.
     pub fn absent(rt: &R) -> Self
         ensures new { (result.faults ≡ 0) × (result.has_failed ≡ false) }
         ensures arrivals { result.arrivals ≡ None }
@@ -58,26 +60,33 @@ impl<R: Net<Listener = TcpListener, Stream = TcpStream> + Copy> TcpDoor<R> {
         TcpDoor {
             rt: *rt,
             arrivals: None,
+            bell: Bell::silent(),
             faults: 0,
             has_failed: false,
         }
     }
 
     // A door over this listener and its connections.
-    fn over(rt: &R, arrivals: Arc<Mutex<Arrivals>>) -> Self
+    fn over(rt: &R, arrivals: Arc<Mutex<Arrivals>>, bell: Bell) -> Self
         ensures { (result.faults ≡ 0) × (result.has_failed ≡ false) }
     {
         TcpDoor {
             rt: *rt,
             arrivals: Some(arrivals),
+            bell,
             faults: 0,
             has_failed: false,
         }
     }
 
-    /// Four doors at the address `HOST:PORT`. If the address can't be bound, the first call of each door fails. This call fails only if
-    /// out of memory.
-    pub fn four(rt: &R, alloc: Global, address: &str) -> Result<Doors<TcpDoor<R>>, AllocError>
+    /// Four doors with this bell at the address `HOST:PORT`. If the address can't be bound, the first call of each door fails. This call
+    /// fails only if out of memory.
+    pub fn four(
+        rt: &R,
+        alloc: Global,
+        address: &str,
+        bell: &Bell,
+    ) -> Result<Doors<TcpDoor<R>>, AllocError>
         // No call of any of them has failed yet.
         ensures { IfOk result (λ doors.
             Each doors (λ door. (door.faults ≡ 0) × (door.has_failed ≡ false))) }
@@ -92,10 +101,10 @@ impl<R: Net<Listener = TcpListener, Stream = TcpStream> + Copy> TcpDoor<R> {
         };
         let shared = Arc::new(alloc, Mutex::new(Arrivals::new(alloc, listener)?))?;
         Ok(Doors {
-            a: TcpDoor::over(rt, Arc::try_clone(&shared)?),
-            b: TcpDoor::over(rt, Arc::try_clone(&shared)?),
-            c: TcpDoor::over(rt, Arc::try_clone(&shared)?),
-            d: TcpDoor::over(rt, shared),
+            a: TcpDoor::over(rt, Arc::try_clone(&shared)?, bell.copy()),
+            b: TcpDoor::over(rt, Arc::try_clone(&shared)?, bell.copy()),
+            c: TcpDoor::over(rt, Arc::try_clone(&shared)?, bell.copy()),
+            d: TcpDoor::over(rt, shared, bell.copy()),
         })
     }
 
@@ -161,5 +170,9 @@ impl<R: Net<Listener = TcpListener, Stream = TcpStream> + Clock + Wait + Copy + 
 
     fn finish(&mut self, conn: DoorConn<R>) {
         conn.finish();
+    }
+
+    fn bell(&self) -> Bell {
+        self.bell.copy()
     }
 }

@@ -106,7 +106,7 @@ pub fn serve<
     ensures doors { OnErr result (doors.new ≡ doors.old) }
 {
     let routes = Routes::new(alloc)?;
-    let (mut counter, mut workers) = ends(rt, alloc)?;
+    let (mut counter, mut workers) = ends(rt, alloc, &doors.a.bell())?;
     let (doors_held, calls) = four_beside(
         rt,
         alloc,

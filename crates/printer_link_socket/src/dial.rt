@@ -13,6 +13,9 @@ pub trait Dial {
     /// Hears that a name is no port's, and may say why.
     fn refuse(&mut self, name: &str);
 
+    /// Whether a read of that stream waits for input by itself, for a bounded time.
+    fn reads_wait(&self, stream: &Self::Stream) -> bool;
+
     /// Closes a stream.
     fn close(&mut self, stream: Self::Stream);
 

@@ -16,6 +16,7 @@ use crate::boot::Boot;
 use crate::dial::Dial;
 use crate::stream_link::{Skipped, StreamLink};
 use byte_text::{Line, MOST_LINE_BYTES, ReplyLine};
+use octo_outside_bell::Ear;
 use printer_link::{Heard, Link, LinkFault};
 
 // How long a printer at a serial device may take to start by default, in milliseconds.
@@ -24,9 +25,12 @@ const TTY_BOOT: u16 = 3_000;
 /// A link to ports of these kinds: `HOST:PORT`, over TCP; `unix:PATH`, over a Unix socket; `tty:PATH:SPEED` and `tty:PATH`, over
 /// a serial device. It does not record its history.
 ///
-/// A call of `recv` waits for about a millisecond, and a reply that comes in ends the wait at once. Lines that are sent
-/// are written when `recv` finds no reply that has been read, so that those of one turn go out together. It fails if that
+/// A call of `recv` waits for some milliseconds, and a reply that comes in, or a ring of the bell, ends the wait at once. Lines that are
+/// sent are written when `recv` finds no reply that has been read, so that those of one turn go out together. It fails if that
 /// write fails, or if it finds that the peer has closed, even within a line.
+///
+/// The wait lasts 10 milliseconds if it has an ear. Without one it is a millisecond over a serial device, and over a socket as short as
+/// the system makes a read that is to wait for a millisecond: up to 20. Then a reply costs one call of the system, and not two.
 ///
 /// A printer may restart when its line is opened. So over a serial device, and over a socket if a boot time is given, the link first
 /// waits for the printer: until its line `start`, or until it had its boot time and was silent for 2.5 seconds. Till then
@@ -70,10 +74,19 @@ impl<D: Dial + Drop> PortLink<D> {
         ensures faults { result.faults ≡ 0 }
         ensures boot { result.boot_ms ≡ boot_ms }
     {
+        PortLink::with_ear(ports, boot_ms, Ear::deaf())
+    }
+
+    /// The same, and a ring that this ear hears ends a wait of `recv`, which doesn't take it.
+    pub fn with_ear(ports: D, boot_ms: Option<u16>, ear: Ear) -> Self
+        ensures down { result.up ≡ false }
+        ensures faults { result.faults ≡ 0 }
+        ensures boot { result.boot_ms ≡ boot_ms }
+    {
         PortLink {
             ports,
             boot_ms,
-            line: StreamLink::closed(),
+            line: StreamLink::closed(ear),
             boot: None,
             up: false,
             faults: 0,
@@ -183,7 +196,8 @@ impl<D: Dial + Drop> Link for PortLink<D> {
         let Some(stream) = self.ports.open(name) else {
             return Err(self.fail());
         };
-        self.line = StreamLink::over(stream);
+        let reads_wait = self.ports.reads_wait(&stream);
+        self.line.begin(stream, reads_wait);
         self.boot = wait_from(self.ports.now(), self.boot_ms, name);
         self.up = true;
         Ok(())

@@ -1,24 +1,27 @@
 //! Waiting for a stream of the system.
-use libc::net::{POLLIN, POLLOUT, poll};
+use libc::net::{POLLOUT, poll};
 use libc::types::pollfd;
+use octo_outside_bell::Ear;
 use std::os::fd::AsRawFd;
 
-// Whether one of these events came within that many milliseconds, or the poll failed.
-fn may_come<S: AsRawFd>(stream: &S, events: i16, wait: i32) -> bool {
-    let mut asked = [pollfd {
-        fd: stream.as_raw_fd(),
-        events,
-        revents: 0,
-    }];
-    poll(&mut asked, wait) != 0
-}
+// How long a wait for input lasts, in milliseconds, and how long if no ring can end it.
+const WAIT: u16 = 10;
 
-/// Whether a read has something to return within that many milliseconds. If the poll fails, the read's own limit ends it.
-pub(crate) fn may_read<S: AsRawFd>(stream: &S, wait: i32) -> bool {
-    may_come(stream, POLLIN, wait)
+const DEAF_WAIT: u16 = 1;
+
+/// Whether a read has something to return within about 10 milliseconds, or one with a deaf ear. A ring ends the wait; it isn't taken. If the
+/// poll fails, the read's own limit ends it.
+pub(crate) fn may_read<S: AsRawFd>(stream: &S, ear: &Ear) -> bool {
+    let wait = if ear.is_deaf() { DEAF_WAIT } else { WAIT };
+    ear.wait_beside(stream.as_raw_fd(), wait)
 }
 
 /// Whether there is room for a write within that many milliseconds, or the poll failed.
 pub(crate) fn may_write<S: AsRawFd>(stream: &S, wait: i32) -> bool {
-    may_come(stream, POLLOUT, wait)
+    let mut asked = [pollfd {
+        fd: stream.as_raw_fd(),
+        events: POLLOUT,
+        revents: 0,
+    }];
+    poll(&mut asked, wait) != 0
 }

@@ -9,17 +9,20 @@ use std::alloc::Global;
 use std::fs::File;
 use std::io;
 use std::io::{Eprint, Read, Write};
-use std::net::{Net, TcpStream, ToSocketAddrs};
+use std::net::{Net, OpenStream, SocketAddr, TcpStream, ToSocketAddrs};
 use std::os::fd::{AsRawFd, RawFd};
 use std::os::unix::net::UnixStream;
 use std::process::Processes;
 use std::rt::Files;
 use std::time::{Clock, Duration};
 
-// How long one address is tried, in milliseconds, and how many addresses of a host are tried.
+// How long the addresses of a host are tried, in milliseconds, and how many of them are.
 const CONNECT: u64 = 2000;
 
 const ADDRESSES: usize = 4;
+
+// How long a read is to wait for input, in milliseconds. Many systems make it longer.
+const READ: u64 = 1;
 
 // How a device is named.
 const DEVICE_NAMES: &str =
@@ -85,11 +88,22 @@ impl<R: Drop> SystemPorts<R> {
     }
 }
 
-// Connects over TCP to an address; `None` if no peer accepts in time.
-fn connect_address<R: Net>(rt: &R, name: &str) -> Option<R::Stream> {
-    let timeout = Duration::from_millis(CONNECT);
+// The addresses that are tried.
+fn addresses_of<R: Net>(rt: &R, alloc: Global, name: &str) -> Option<Vec<SocketAddr>> {
+    let mut addresses = Vec::new(alloc);
     for address in name.to_socket_addrs(rt).ok()?.take(ADDRESSES) {
-        if let Ok(stream) = TcpStream::connect_timeout(rt, &address, timeout) {
+        addresses.push(address).ok()?;
+    }
+    Some(addresses)
+}
+
+// Connects over TCP to an address; `None` if no peer accepts in time. Each address has an equal part of the time.
+fn connect_address<R: Net>(rt: &R, alloc: Global, name: &str) -> Option<R::Stream> {
+    let addresses = addresses_of(rt, alloc, name)?;
+    let count = addresses.len().max(1) as u64;
+    let timeout = Duration::from_millis(CONNECT / count);
+    for address in addresses.as_slice() {
+        if let Ok(stream) = TcpStream::connect_timeout(rt, address, timeout) {
             return Some(stream);
         }
     }
@@ -97,23 +111,25 @@ fn connect_address<R: Net>(rt: &R, name: &str) -> Option<R::Stream> {
 }
 
 // Connects over a socket; `None` if no peer accepts. A Unix socket accepts at once or not at all.
-fn connect<R: Net>(rt: &R, name: &str) -> Option<SocketStream<R::Stream>> {
+fn connect<R: Net>(rt: &R, alloc: Global, name: &str) -> Option<SocketStream<R::Stream>> {
     let stream = match unix_path(name) {
         Some(path) => SocketStream::Unix(UnixStream::connect(rt, path).ok()?),
-        None => SocketStream::Tcp(connect_address(rt, name)?),
+        None => SocketStream::Tcp(connect_address(rt, alloc, name)?),
     };
     prepare(&stream).ok()?;
+    let wait = Some(Duration::from_millis(READ));
+    stream.set_read_timeout(wait).ok()?;
     Some(stream)
 }
 
 impl<R: Net + Files<File = File> + Processes + Clock + Eprint + Drop> Dial for SystemPorts<R> {
     type Stream = PortStream<SocketStream<R::Stream>, TtyStream<File>>;
 
-    /// Connects over a socket, trying at most 4 addresses for about 2 seconds each, or opens a serial device. If a device can't be used,
+    /// Connects over a socket, trying at most 4 addresses for about 2 seconds in all, or opens a serial device. If a device can't be used,
     /// the standard error says why.
     fn open(&mut self, name: &str) -> Option<Self::Stream> {
         let Some(device) = device_of(name) else {
-            return Some(PortStream::Socket(connect(&self.rt, name)?));
+            return Some(PortStream::Socket(connect(&self.rt, self.alloc, name)?));
         };
         match TtyStream::open(&self.rt, self.alloc, &device) {
             Ok(stream) => Some(PortStream::Tty(stream)),
@@ -130,6 +146,10 @@ impl<R: Net + Files<File = File> + Processes + Clock + Eprint + Drop> Dial for S
         if name.starts_with("tty:") {
             let _ = eprintln!(self.rt; "octo: {name}: {DEVICE_NAMES}; docs/SERIAL.md says more");
         }
+    }
+
+    fn reads_wait(&self, stream: &Self::Stream) -> bool {
+        matches!(stream, PortStream::Socket(_))
     }
 
     /// Closes a stream. Input that comes meanwhile over a socket is dropped, for about 50 milliseconds at most.

@@ -13,12 +13,10 @@ use crate::lines::Lines;
 use crate::poll::may_read;
 use crate::unsent::Unsent;
 use byte_text::{Line, MOST_LINE_BYTES, ReplyLine};
+use octo_outside_bell::Ear;
 use printer_link::Heard;
 use std::io::{Read, Write};
 use std::os::fd::AsRawFd;
-
-// How long a call waits for input, in milliseconds.
-const WAIT: i32 = 1;
 
 /// What was skipped while the printer may start.
 #[derive(Clone, Copy)]
@@ -31,34 +29,38 @@ pub(crate) enum Skipped {
     Nothing,
 }
 
-/// A stream to a printer, the lines that wait to be written, and the bytes that were read.
+/// A stream to a printer, the lines that wait to be written, the bytes that were read, and an ear for a bell that ends its waits.
 #[derive(Drop)]
 pub(crate) struct StreamLink<S: Drop> {
     pub(crate) stream: Option<S>,
     pub(crate) unsent: Unsent,
     pub(crate) lines: Lines,
+    ear: Ear,
+    // Whether a read waits for input by itself, and no ring is to end that wait.
+    reads_wait: bool,
 }
 
 impl<S: Drop> StreamLink<S> {
-    /// No stream.
-    pub(crate) fn closed() -> Self {
+    /// No stream yet.
+    pub(crate) fn closed(ear: Ear) -> Self {
         StreamLink {
             stream: None,
             unsent: Unsent::new(),
             lines: Lines::new(),
+            ear,
+            reads_wait: false,
         }
     }
 
-    /// A link over a stream, of which nothing was read or written.
-    pub(crate) fn over(stream: S) -> Self
-        ensures unsent { result.unsent ≡ [] }
-        ensures lines { result.lines ≡ no_lines }
+    /// Goes on with a stream of which nothing was read or written. A read of it may wait for input by itself, for a bounded time.
+    pub(crate) fn begin(&mut self, stream: S, reads_wait: bool)
+        ensures unsent { self.new.unsent ≡ [] }
+        ensures lines { self.new.lines ≡ no_lines }
     {
-        StreamLink {
-            stream: Some(stream),
-            unsent: Unsent::new(),
-            lines: Lines::new(),
-        }
+        self.reads_wait = reads_wait && self.ear.is_deaf();
+        self.stream = Some(stream);
+        self.unsent = Unsent::new();
+        self.lines = Lines::new();
     }
 
     /// Forgets what was read.
@@ -114,7 +116,7 @@ impl<S: Write + Drop> StreamLink<S> {
 }
 
 impl<S: Read + AsRawFd + Drop> StreamLink<S> {
-    /// Reads what comes within about a millisecond. Returns `false` if the stream failed or the peer has closed.
+    /// Reads what comes within a few milliseconds; a ring ends the wait. Returns `false` if the stream failed or the peer has closed.
     #[tactic(auto, using(crate::proofs::Heard::nothing_came, crate::proofs::Heard::no_bytes_came))]
     pub(crate) fn read_in(&mut self) -> bool
         requires { self.old.lines.waiting ≡ [] }
@@ -127,7 +129,7 @@ impl<S: Read + AsRawFd + Drop> StreamLink<S> {
         let Some(mut stream) = self.stream.take() else {
             return false;
         };
-        if may_read(&stream, WAIT) {
+        if self.reads_wait || may_read(&stream, &self.ear) {
             let _ = self.lines.fill(&mut stream);
         }
         self.stream = Some(stream);

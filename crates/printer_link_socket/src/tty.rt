@@ -2,7 +2,7 @@
 ghost use Rattle.std.specs.Prelude.{◌≡◌};
 
 use crate::address::Device;
-use crate::poll::{may_read, may_write};
+use crate::poll::may_write;
 use std::alloc::Global;
 use std::fs::{File, OpenOptions};
 use std::io;

@@ -85,6 +85,10 @@ impl Dial for Ports {
 
     fn refuse(&mut self, _name: &str) {}
 
+    fn reads_wait(&self, _stream: &Printer) -> bool {
+        false
+    }
+
     fn close(&mut self, stream: Printer) {
         drop(stream);
     }

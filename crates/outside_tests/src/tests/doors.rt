@@ -3,6 +3,7 @@ ghost use Rattle.std.specs.Prelude.{IfOk};
 ghost use Rattle.octo_outside_doors.specs.Memory.{IsUntouched};
 
 use octo_outside::{CallList, Conn, Failed, MemoryConn, calls_of, send_all};
+use octo_outside_bell::Bell;
 use octo_outside_doors::{ConnList, Door, Knock, MemoryDoor, TcpDoor, may_pass};
 use std::alloc::{AllocError, Global};
 use std::io::{self, Read, Write};
@@ -108,7 +109,7 @@ fn ample(rt: HostRuntime) -> Result<(), Fail> {
 // Four doors share a listener.
 #[test]
 fn ample_doors(rt: HostRuntime) -> Result<(), Fail> {
-    let doors = TcpDoor::four(&rt, rt.alloc(), "127.0.0.1:0")?;
+    let doors = TcpDoor::four(&rt, rt.alloc(), "127.0.0.1:0", &Bell::silent())?;
     let address = doors.a.address();
     assert!(rt; address.is_some());
     let others = [doors.b.address(), doors.c.address(), doors.d.address()];
@@ -149,7 +150,7 @@ fn reads_four(rt: &impl Abort, peer: TcpStream) -> Result<(), Fail> {
 // although its own input wasn't read.
 #[test]
 fn tcp_doors(rt: HostRuntime) -> Result<(), Fail> {
-    let mut doors = TcpDoor::four(&rt, rt.alloc(), "127.0.0.1:0")?;
+    let mut doors = TcpDoor::four(&rt, rt.alloc(), "127.0.0.1:0", &Bell::silent())?;
     assert_eq!(rt; serve_once(&mut doors.a), 'q');
     let peer = peer_of(&rt, doors.c.address().ok_or("not bound")?)?;
     assert_eq!(rt; serve_soon(&mut doors.b), 'c');
@@ -160,7 +161,7 @@ fn tcp_doors(rt: HostRuntime) -> Result<(), Fail> {
 // A peer that has sent a part of a head isn't served until the rest has come, and one that has closed is never served.
 #[test]
 fn parts_of_heads(rt: HostRuntime) -> Result<(), Fail> {
-    let mut doors = TcpDoor::four(&rt, rt.alloc(), "127.0.0.1:0")?;
+    let mut doors = TcpDoor::four(&rt, rt.alloc(), "127.0.0.1:0", &Bell::silent())?;
     let address = doors.a.address().ok_or("not bound")?;
     let gone = TcpStream::connect(&rt, address)?;
     drop(gone);
@@ -178,7 +179,7 @@ fn parts_of_heads(rt: HostRuntime) -> Result<(), Fail> {
 // What isn't an address: the first call fails, and the door has ended then.
 #[test]
 fn absent_doors(rt: HostRuntime) -> Result<(), Fail> {
-    let mut doors = TcpDoor::four(&rt, rt.alloc(), "7100")?;
+    let mut doors = TcpDoor::four(&rt, rt.alloc(), "7100", &Bell::silent())?;
     for want in ['f', 'e', 'e'] {
         assert_eq!(rt;
             (serve_once(&mut doors.a), serve_once(&mut doors.d)),

@@ -5,6 +5,7 @@ ghost use Rattle.std.specs.Prelude.{◌≡◌, IfSome, IfOk, None, false, [], Op
 use super::gate_conn::GateConn;
 use arrayvec::ArrayVec;
 use octo_outside::{CallList, Failed, MemoryConn};
+use octo_outside_bell::Bell;
 use octo_outside_doors::{Door, Doors, Knock};
 use std::alloc::{AllocError, Global};
 use std::sync::Arc;
@@ -115,5 +116,9 @@ impl<R: Clock + Copy + Send + Drop> Door for GateDoor<R> {
         if let Some(gate) = &self.opens {
             gate.store(true, Ordering::SeqCst);
         }
+    }
+
+    fn bell(&self) -> Bell {
+        Bell::silent()
     }
 }

@@ -5,6 +5,7 @@ ghost use Rattle.hand_over.specs.Ends.{house_place, worker_place};
 
 use hand_over::{HouseEnd, WorkerEnd, Workers, ends};
 use octo_asks::{Answer, Ask, Asker, Closed, Counter, Next, Request};
+use octo_outside_bell::Bell;
 use std::alloc::Global;
 use std::sync::Wait;
 use std::test::Fail;
@@ -106,7 +107,7 @@ fn answers_of_both<R: Threads + Wait + Send + Sync>(
 // The only call that takes memory: four ends and the house's, at which nothing has happened.
 #[test]
 fn ample(rt: HostRuntime) -> Result<(), Fail> {
-    let (mut house, mut workers) = ends(&rt, rt.alloc())?;
+    let (mut house, mut workers) = ends(&rt, rt.alloc(), &Bell::silent())?;
     assert!(&rt; matches!(house.next(), Next::Nothing));
     assert!(&rt; !workers.a.closed());
     Ok(())
@@ -128,7 +129,7 @@ fn see_the_end<R: Wait>(c: &mut WorkerEnd<R>, d: &mut WorkerEnd<R>, asks: (Ask, 
 fn a_closed_host_takes_no_ask(rt: HostRuntime) -> Result<(), Fail> {
     let first = ask_of(rt.alloc(), Request::Version)?;
     let second = ask_of(rt.alloc(), Request::Version)?;
-    let (mut house, mut workers) = ends(&rt, rt.alloc())?;
+    let (mut house, mut workers) = ends(&rt, rt.alloc(), &Bell::silent())?;
     house.close();
     assert!(&rt; see_the_end(&mut workers.c, &mut workers.d, (first, second)));
     house.end(workers);
@@ -139,7 +140,7 @@ fn a_closed_host_takes_no_ask(rt: HostRuntime) -> Result<(), Fail> {
 fn each_worker_gets_its_answer(rt: HostRuntime) -> Result<(), Fail> {
     let version = ask_of(rt.alloc(), Request::Version)?;
     let job = ask_of(rt.alloc(), Request::GetJob)?;
-    let (mut house, workers) = ends(&rt, rt.alloc())?;
+    let (mut house, workers) = ends(&rt, rt.alloc(), &Bell::silent())?;
     let Workers { mut a, b, c, mut d } = workers;
     let answers = answers_of_both(&rt, &mut a, &mut d, &mut house, (version, job));
     house.close();

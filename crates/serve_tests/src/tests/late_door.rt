@@ -1,5 +1,6 @@
 //! A door that waits for another.
 use octo_outside::{Failed, MemoryConn};
+use octo_outside_bell::Bell;
 use octo_outside_doors::{Door, Knock, MemoryDoor};
 use std::alloc::Global;
 use std::process::Abort;
@@ -50,6 +51,10 @@ impl<R: Clock + Copy + Send + Drop> Door for LateDoor<R> {
         if self.finished == self.opens_at {
             self.gate.store(true, Ordering::SeqCst);
         }
+    }
+
+    fn bell(&self) -> Bell {
+        Bell::silent()
     }
 }
 
