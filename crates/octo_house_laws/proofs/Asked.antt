@@ -191,6 +191,7 @@ module _ (limits : Limits) where
     cool_request (request.DropOther owner name) = by-found _ _ _ (λ entry. writes-cool answer.Accepted _ tt)
     cool_request request.NextEntry = by-test _ _ _ (by-found _ _ _ by-take)
     cool_request request.ListPrints = gives-cool _
+    cool_request request.Backup = writes-cool answer.Accepted _ tt
     cool_request request.Shutdown = by-test _ _ _ (gives-cool _)
     cool_request request.Leave = gives-cool _
     cool_request request.AutoConnect = gives-cool _

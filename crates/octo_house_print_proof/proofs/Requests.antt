@@ -257,6 +257,7 @@ module _ (user : UserRow) (files : List ShelfFile) (k : Known) where
   plays (request.DropOwn name) = by-found files k _ _ _ (λ entry. writes-one answer.Accepted _ tt)
   plays (request.DropOther owner name) = by-found files k _ _ _ (λ entry. writes-one answer.Accepted _ tt)
   plays request.NextEntry = by-test files k _ _ _ (by-found files k _ _ _ by-take)
+  plays request.Backup = writes-one answer.Accepted _ tt
   plays request.Shutdown = by-test files k _ _ _ (gives-one _)
   plays _ = gives-one _
 

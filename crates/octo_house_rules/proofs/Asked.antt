@@ -150,6 +150,7 @@ module _ (user : UserRow) (files : List ShelfFile) (k : Known) (n : IsNumbered k
   plays (request.DropOther owner name) = by-found k _ _ _ (λ entry. writes-one answer.Accepted _ k (played_none _ k refl refl n))
   plays request.NextEntry = by-test k _ _ _ (by-found k _ _ _ by-take)
   plays request.ListPrints = gives-one _ k
+  plays request.Backup = writes-one answer.Accepted _ k (played_none _ k refl refl n)
   plays request.Shutdown = by-test k _ _ _ (gives-one _ k)
   plays request.Leave = gives-one _ k
   plays request.AutoConnect = gives-one _ k

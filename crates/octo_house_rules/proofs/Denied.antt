@@ -193,6 +193,7 @@ granting (request.DropOwn name) user files k = by-found _ answer.NoEntry _ refl 
 granting (request.DropOther owner name) user files k = by-found _ answer.NoEntry _ refl (λ entry. by-writes answer.Accepted _ refl)
 granting request.NextEntry user files k = by-test _ (answer.WrongState k.desk.state) _ refl (by-found _ answer.NoEntry _ refl (by-take files k))
 granting request.ListPrints user files k = by-gives (answer.Prints _) refl
+granting request.Backup user files k = by-writes answer.Accepted _ refl
 granting request.Shutdown user files k = by-test _ (answer.WrongState k.desk.state) _ refl (by-gives answer.Accepted refl)
 granting request.Leave user files k = by-gives answer.Accepted refl
 granting request.AutoConnect user files k = by-gives answer.Accepted refl

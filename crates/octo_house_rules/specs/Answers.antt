@@ -11,7 +11,7 @@ use Rattle.octo_asks.specs.declared.request.Request.{Request}
 use Rattle.octo_asks.specs.declared.request.Request.TheVariants as request
 use Rattle.octo_house_rules.specs.Known.{Known}
 use Rattle.octo_house_rules.specs.Verdict.{Verdict, gives}
-use Rattle.octo_house_rules.specs.Reads.{caller_verdict, limits_verdict, connection_verdict, printer_verdict, job_verdict, list_files_verdict, get_file_verdict, download_verdict, list_users_verdict, list_queue_verdict, list_prints_verdict, shutdown_verdict}
+use Rattle.octo_house_rules.specs.Reads.{caller_verdict, limits_verdict, connection_verdict, printer_verdict, job_verdict, list_files_verdict, get_file_verdict, download_verdict, list_users_verdict, list_queue_verdict, list_prints_verdict, backup_verdict, shutdown_verdict}
 use Rattle.octo_house_rules.specs.Prints.{connect_verdict, disconnect_verdict, heat_tool_verdict, heat_bed_verdict, lines_verdict, move_verdict, pause_verdict, resume_verdict, toggle_verdict, cancel_verdict, start_verdict, restart_verdict}
 use Rattle.octo_house_rules.specs.Uploads.{put_file_verdict, select_verdict, delete_verdict, next_verdict}
 use Rattle.octo_house_rules.specs.Rows.{new_user, put_user_verdict, change_user_verdict, asked_entry, put_entry_verdict, drop_verdict}
@@ -52,6 +52,7 @@ request_verdict (request.DropOwn name) user files k = drop_verdict user.name nam
 request_verdict (request.DropOther owner name) user files k = drop_verdict owner name k
 request_verdict request.NextEntry user files k = next_verdict files k
 request_verdict request.ListPrints user files k = list_prints_verdict user k
+request_verdict request.Backup user files k = backup_verdict k
 request_verdict request.Shutdown user files k = shutdown_verdict k
 request_verdict request.Leave user files k = gives answer.Accepted
 request_verdict request.AutoConnect user files k = gives answer.Accepted

@@ -17,7 +17,7 @@ use Rattle.octo_asks.specs.declared.shown.Progress.{Progress}
 use Rattle.octo_asks.specs.declared.shown.ShownFile.{ShownFile}
 use Rattle.octo_house_rules.specs.Known.{Known, is_held, whose}
 use Rattle.octo_house_rules.specs.States.{may_show, may_shut_down, shown_port}
-use Rattle.octo_house_rules.specs.Verdict.{Verdict, gives, reads}
+use Rattle.octo_house_rules.specs.Verdict.{Verdict, at_desk, gives, reads, writes}
 use Rattle.octo_house_rules.specs.Refusals.{refused_if, found_or}
 
 -- the groups of nobody
@@ -107,6 +107,10 @@ is_print_of (Some user) row = bytes_eq row.user user
 -- the prints that the user is shown, newest first, at most 100
 abbrev pub list_prints_verdict : UserRow → Known → Verdict
 list_prints_verdict user k = gives (answer.Prints (map shown_print (take 100 (reverse (filter (is_print_of (whose k user)) k.prints)))))
+
+-- the keeper writes a copy of the tables; the host and its tables stay
+abbrev pub backup_verdict : Known → Verdict
+backup_verdict k = writes answer.Accepted (at_desk [] k)
 
 -- the host ends; whoever runs it sees the answer
 abbrev pub shutdown_verdict : Known → Verdict
