@@ -189,6 +189,7 @@ request-within (request.DropOther owner name) user files k = found false false (
 request-within request.NextEntry user files k = refused true false (not (may_start k.desk.state)) _ _ (found true false (find (fits k.material) k.queue) answer.NoEntry _
     (λ entry. takes true false refl files k entry))
 request-within request.ListPrints user files k = tt
+request-within request.Backup user files k = tt
 request-within request.Shutdown user files k = refused false false (not (may_shut_down k.desk.state)) _ _ tt
 request-within request.Leave user files k = tt
 request-within request.AutoConnect user files k = tt

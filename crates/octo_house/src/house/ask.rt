@@ -3,6 +3,7 @@ ghost use Rattle.std.specs.Prelude.{◌≡◌, ◌↔◌, ◌≤◌, ◌==◌, l
 ghost use Rattle.octo_access.specs.declared.permission.Permission.{Permission};
 ghost use Rattle.octo_asks.specs.Rights.{needed};
 ghost use Rattle.octo_asks.specs.declared.answer.Answer.TheVariants as answer;
+ghost use Rattle.octo_asks.specs.declared.request.Request.TheVariants.{Backup};
 ghost use Rattle.octo_house_tables.specs.Counts.{IsPlain};
 ghost use Rattle.octo_keeper.specs.declared.shelf.ShelfFile.{ShelfFile};
 ghost use Rattle.print_queue.specs.Calls.{new_entry};
@@ -10,6 +11,7 @@ ghost use Rattle.print_queue.specs.Lawful.{IsWholeRow};
 ghost use Rattle.octo_house_rules.specs.Access.{is_denied};
 ghost use Rattle.octo_house_rules.specs.Answers.{verdict, request_verdict, free_verdict, lacking};
 ghost use Rattle.octo_house_rules.specs.Prints.{connect_verdict};
+ghost use Rattle.octo_house_rules.specs.Reads.{backup_verdict};
 ghost use Rattle.octo_house_rules.specs.Rows.{put_entry_verdict};
 ghost use Rattle.octo_house_rules.specs.Verdict.{gives};
 ghost use Rattle.octo_house.specs.Answered.{Answers, AnswersOn, Shelves, IsUntouched, AskDone, KeeperDone};
@@ -21,7 +23,7 @@ use super::House;
 use super::upload::Wanted;
 use octo_access::{Permission, UserRow};
 use octo_asks::{Answer, Ask, Request, needed};
-use octo_house_tables::asked_entry;
+use octo_house_tables::{answer_of_keeper_fault, asked_entry};
 use octo_keeper::{Keeper, Shelf};
 use print_queue::QueueEntry;
 
@@ -48,6 +50,10 @@ impl House {
             (λ files. verdict ask files (known_of self.old)) result self.old self.new }
         ensures files { Shelves (S.files shelf.old) (S.files shelf.new)
             (λ files. verdict ask files (known_of self.old)) result }
+
+        // A backup that is accepted has the tables as they were.
+        ensures saved { ask.request ≡ Backup → result ≡ answer.Accepted
+            → K.saved keeper.new ≡ K.tables keeper.old }
 
         // What it leaves else, and the counts of faults.
         ensures rest { AskDone K.tables K.faults S.files S.faults
@@ -131,6 +137,8 @@ impl House {
         ensures granted { is_reading request.now ≡ true → is_denied result ≡ false }
         ensures files { Shelves (S.files shelf.old) (S.files shelf.new)
             (λ files. request_verdict request.now user.now files (known_of self.old)) result }
+        ensures saved { request.now ≡ Backup → result ≡ answer.Accepted
+            → K.saved keeper.new ≡ K.tables keeper.old }
         ensures rest { AskDone K.tables K.faults S.files S.faults
             keeper.old keeper.new shelf.old shelf.new result self.old self.new }
     {
@@ -157,6 +165,7 @@ impl House {
             Request::Start => self.start(keeper, &user.name),
             Request::Cancel => self.desk.cancel(),
             Request::Restart => self.restart(keeper, &user.name),
+            Request::Backup => self.backup(keeper),
             Request::Pause => self.desk.pause(),
             Request::Resume => self.desk.resume(),
             Request::Toggle => self.desk.toggle(),
@@ -244,6 +253,19 @@ impl House {
                 self.put_entry(keeper, &asked)
             }
             _ => unreachable!(),
+        }
+    }
+
+    // Has the keeper write a copy of the tables.
+    fn backup<K: Keeper>(&self, keeper: &mut K) -> Answer
+        ensures done { Answers (backup_verdict (known_of self.now)) result self.now self.now }
+        ensures saved { result ≡ answer.Accepted → K.saved keeper.new ≡ K.tables keeper.old }
+        ensures rest { KeeperDone K.tables K.faults keeper.old keeper.new
+            result self.now self.now }
+    {
+        match keeper.backup(self.desk.alloc) {
+            Ok(()) => Answer::Accepted,
+            Err(fault) => answer_of_keeper_fault(fault),
         }
     }
 

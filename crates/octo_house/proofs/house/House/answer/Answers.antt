@@ -86,3 +86,8 @@ pub returns-in-Start-clause-files : goal.returns-in-Start-clause-files
 returns-in-Start-clause-files g c =
     shelves-same _ _ (λ files. request_verdict c.args.request.now c.args.user.now files (known_of c.args.self.now)) _ refl
     (λ files. request-leaves c.args.request.now c.args.user.now files (known_of c.args.self.now) (ap is_storing c.in-Start.is))
+
+pub returns-in-Backup-clause-files : goal.returns-in-Backup-clause-files
+returns-in-Backup-clause-files g c =
+    shelves-same _ _ (λ files. request_verdict c.args.request.now c.args.user.now files (known_of c.args.self.now)) _ refl
+    (λ files. request-leaves c.args.request.now c.args.user.now files (known_of c.args.self.now) (ap is_storing c.in-Backup.is))
