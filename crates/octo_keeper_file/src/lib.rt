@@ -6,6 +6,9 @@ ghost use Rattle.sqlite.specs.Files.{file_state};
 ghost use Rattle.sqlite.specs.State.{HasCleanDisk};
 ghost use Rattle.octo_keeper.specs.declared.keeper.KeeperFault.TheVariants as fault;
 
+mod backup;
+
+use backup::back_up;
 use byte_text::Name;
 use octo_keeper::{Change, Keeper, KeeperFault, Tables};
 use octo_keeper_sql::{SqlKeeper, fault_of};
@@ -17,12 +20,16 @@ use std::os::unix::fs::OpenOptionsExt;
 // Who may use a new database: its owner. Its log gets the mode of the database.
 const DATABASE_MODE: u32 = 0o600;
 
-/// What keeps the tables of a host in a database file and the log beside it. Its calls are those of `SqlKeeper`, with the same
-/// clauses.
+/// What keeps the tables of a host in a database file and the log beside it. It loads and commits as `SqlKeeper` does, with the
+/// same clauses. A backup is one file, `PATH.backup`, which has what was committed, for its owner alone. It is written beside that
+/// name, checked, synced and renamed, so it is whole or the former one, also after a kill or a loss of power.
+/// Source: POSIX.1-2017, `rename` and `fsync`.
 ///
 /// It is a type of its own, so that the proofs above this crate read nothing of SQLite's types.
 #[derive(Drop)]
 pub struct FileKeeper {
+    rt: HostRuntime,
+    path: Name,
     database: SqlKeeper<FileStore<File>>,
 }
 
@@ -40,6 +47,8 @@ impl Keeper for FileKeeper {
     ghost use Rattle.octo_keeper_sql.specs.Statements.{Commits, FailsToWrite, RanInTurn, statements};
 
     ghost tables = { λ _. None };
+
+    ghost saved = { λ _. None };
 
     ghost faults = { λ k. k.database.faults };
 
@@ -85,6 +94,18 @@ impl Keeper for FileKeeper {
     {
         self.database.commit(alloc, change)
     }
+
+    fn backup(&mut self, _: Global) -> Result<(), KeeperFault>
+        ensures stays { self.new.database.connection ≡ self.old.database.connection }
+
+        ensures counts { Counts (IsErrOf result fault.Failed)
+            self.old.database.faults self.new.database.faults }
+        ensures steady { (IsErrOf result fault.Failed → ⊥)
+            → self.new.database.faults ≡ self.old.database.faults }
+    {
+        let done = back_up(&self.rt, &self.path);
+        self.database.count(done)
+    }
 }
 
 // Makes the file of that path if it is missing, so that only its owner may read or write it. If it can't be made, opening it says
@@ -120,7 +141,11 @@ pub fn open_keeper(rt: &HostRuntime, path: &Name) -> Result<FileKeeper, KeeperFa
         Err(error) => return Err(fault_of(error)),
     };
     match SqlKeeper::adopt(rt.alloc(), connection) {
-        Ok(database) => Ok(FileKeeper { database }),
+        Ok(database) => Ok(FileKeeper {
+            rt: *rt,
+            path: path.copy(),
+            database,
+        }),
         Err(refused) => Err(refused.fault),
     }
 }
@@ -128,6 +153,10 @@ pub fn open_keeper(rt: &HostRuntime, path: &Name) -> Result<FileKeeper, KeeperFa
 /// Closes the database; what its log holds is copied into the file. If that fails the log keeps it, and the next opening reads
 /// it. Nothing that was committed is lost either way.
 pub fn close_keeper(keeper: FileKeeper) {
-    let FileKeeper { database } = keeper;
+    let FileKeeper {
+        rt: _,
+        path: _,
+        database,
+    } = keeper;
     let _ = database.into_connection().close();
 }

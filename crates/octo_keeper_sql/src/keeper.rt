@@ -68,8 +68,8 @@ impl<S: Alter + Drop> SqlKeeper<S> {
         connection
     }
 
-    // Counts a fault, if the call was one; running out of memory isn't.
-    fn count<T: Drop>(&mut self, done: Result<T, KeeperFault>) -> Result<T, KeeperFault>
+    /// Counts a fault, if a call was one, also one in which the database had no part; running out of memory isn't.
+    pub fn count<T: Drop>(&mut self, done: Result<T, KeeperFault>) -> Result<T, KeeperFault>
         ensures same { result ≡ done }
         ensures stays { self.new.connection ≡ self.old.connection }
         ensures counts { Counts (IsErrOf result fault.Failed) self.old.faults self.new.faults }
@@ -96,6 +96,8 @@ impl<S: Alter + Drop> Keeper for SqlKeeper<S> {
     ghost use Rattle.octo_keeper_sql.specs.Statements.{Commits, FailsToWrite, RanInTurn, statements};
 
     ghost tables = { λ _. None };
+
+    ghost saved = { λ _. None };
 
     ghost faults = { λ k. k.faults };
 
@@ -136,5 +138,15 @@ impl<S: Alter + Drop> Keeper for SqlKeeper<S> {
     {
         let done = commit_change(alloc, &mut self.connection, change);
         self.count(done)
+    }
+
+    // A store has no place for a copy. Over files there is one beside them, and their keeper writes it.
+    fn backup(&mut self, _: Global) -> Result<(), KeeperFault>
+        ensures refused { IsErrOf result fault.Failed }
+        ensures stays { self.new.connection ≡ self.old.connection }
+        ensures counts { Counts (IsErrOf result fault.Failed) self.old.faults self.new.faults }
+        ensures steady { (IsErrOf result fault.Failed → ⊥) → self.new.faults ≡ self.old.faults }
+    {
+        self.count(Err(KeeperFault::Failed))
     }
 }
