@@ -29,6 +29,8 @@ impl AbsentKeeper {
 impl Keeper for AbsentKeeper {
     ghost tables = { λ _. None };
 
+    ghost saved = { λ _. None };
+
     ghost faults = { λ k. k.faults };
 
     fn load(&mut self, _alloc: Global) -> Result<Tables, KeeperFault> {
@@ -37,6 +39,11 @@ impl Keeper for AbsentKeeper {
     }
 
     fn commit(&mut self, _alloc: Global, _change: &Change) -> Result<(), KeeperFault> {
+        self.fail();
+        Err(KeeperFault::Failed)
+    }
+
+    fn backup(&mut self, _alloc: Global) -> Result<(), KeeperFault> {
         self.fail();
         Err(KeeperFault::Failed)
     }

@@ -183,6 +183,10 @@ unloaded_words = codes "database: it can't be read"
 abbrev pub load_line : Bool → List ℕ
 load_line failed = if failed then line_of unloaded_words else []
 
+-- a copy of the tables was written, or couldn't be
+abbrev pub backup_words : Bool → List ℕ
+backup_words failed = if failed then codes "database: it can't be backed up" else codes "database: backed up"
+
 -- a file, with what came of a call
 abbrev pub file_words : List ℕ → List ℕ → List ℕ
 file_words name what = codes "file " ++ name ++ what

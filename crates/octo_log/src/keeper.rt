@@ -10,7 +10,8 @@ use octo_outside::{Clock, Sink};
 use print_queue::{Ending, PrintRow};
 use std::alloc::Global;
 
-/// A keeper with a log: a line says that a print has begun or ended, and that a change can't be stored, once until one is.
+/// A keeper with a log: a line says that a print has begun or ended, that a change can't be stored, once until one is, and what came
+/// of a backup.
 #[derive(Drop)]
 pub struct LoggedKeeper<K: Keeper + Drop, G: Sink + Drop, C: Clock + Drop> {
     keeper: K,
@@ -118,10 +119,12 @@ impl<K: Keeper + Drop, G: Sink + Drop, C: Clock + Drop> Keeper for LoggedKeeper<
     ghost use Rattle.octo_outside.specs.Recorded.{Counts};
     ghost use Rattle.octo_keeper.specs.declared.keeper.KeeperFault.TheVariants as fault;
     ghost use Rattle.octo_keeper.specs.Tables.{changed, AreSound};
-    ghost use Rattle.octo_log.specs.Lines.{began_by, commit_lines, load_line};
+    ghost use Rattle.octo_log.specs.Lines.{backup_words, began_by, commit_lines, line_of, load_line};
     ghost use Rattle.octo_log.specs.Logged.{Logs};
 
     ghost tables = { λ l. K.tables l.keeper };
+
+    ghost saved = { λ l. K.saved l.keeper };
 
     ghost faults = { λ l. K.faults l.keeper };
 
@@ -175,6 +178,26 @@ impl<K: Keeper + Drop, G: Sink + Drop, C: Clock + Drop> Keeper for LoggedKeeper<
             self.began = began_after(self.began, self.moment, change);
         } else if !was_failing {
             log_line(&mut self.log, b"database: a change can't be stored");
+        }
+        done
+    }
+
+    fn backup(&mut self, alloc: Global) -> Result<(), KeeperFault>
+        ensures ok { OnOk result (K.saved self.new.keeper ≡ K.tables self.old.keeper) }
+        ensures stays { K.tables self.new.keeper ≡ K.tables self.old.keeper }
+        ensures counts { Counts (IsErrOf result fault.Failed)
+            (K.faults self.old.keeper) (K.faults self.new.keeper) }
+        ensures steady { (IsErrOf result fault.Failed → ⊥)
+            → K.faults self.new.keeper ≡ K.faults self.old.keeper }
+
+        ensures logged { Logs (line_of (backup_words (is_err result)))
+            (G.written self.old.log) (G.written self.new.log)
+            (G.faults self.old.log) (G.faults self.new.log) }
+    {
+        let done = self.keeper.backup(alloc);
+        match done {
+            Ok(()) => log_line(&mut self.log, b"database: backed up"),
+            Err(_) => log_line(&mut self.log, b"database: it can't be backed up"),
         }
         done
     }

@@ -47,6 +47,8 @@ impl<K: Keeper + Drop> Keeper for Opened<K> {
 
     ghost tables = { λ o. tables_of K.tables o.keeper };
 
+    ghost saved = { λ o. tables_of K.saved o.keeper };
+
     ghost faults = { λ o. faults_of K.faults o.keeper o.faults };
 
     fn load(&mut self, alloc: Global) -> Result<Tables, KeeperFault> {
@@ -62,6 +64,16 @@ impl<K: Keeper + Drop> Keeper for Opened<K> {
     fn commit(&mut self, alloc: Global, change: &Change) -> Result<(), KeeperFault> {
         match &mut self.keeper {
             Ok(keeper) => keeper.commit(alloc, change),
+            Err(fault) => {
+                let fault = *fault;
+                Err(self.refuse(fault))
+            }
+        }
+    }
+
+    fn backup(&mut self, alloc: Global) -> Result<(), KeeperFault> {
+        match &mut self.keeper {
+            Ok(keeper) => keeper.backup(alloc),
             Err(fault) => {
                 let fault = *fault;
                 Err(self.refuse(fault))
