@@ -35,8 +35,9 @@ profiles_text =
     ++ codes "\"extruder\":{\"count\":1},\"heatedBed\":true,\"id\":\"_default\",\"model\":\"Generic\","
     ++ codes "\"name\":\"Default\"}}}"
 
--- the one command of the system
+-- the commands of the system
 abbrev pub commands_text : List ℕ
 commands_text =
     codes "{\"core\":[{\"action\":\"shutdown\",\"name\":\"Shutdown\",\"resource\":\"/api/system/commands/core/shutdown\","
-    ++ codes "\"source\":\"core\"}],\"custom\":[]}"
+    ++ codes "\"source\":\"core\"},{\"action\":\"backup\",\"name\":\"Backup\","
+    ++ codes "\"resource\":\"/api/system/commands/core/backup\",\"source\":\"core\"}],\"custom\":[]}"

@@ -27,9 +27,11 @@ pub(crate) const PROFILES: &str =
 \"default\":true,\"extruder\":{\"count\":1},\"heatedBed\":true,\"id\":\"_default\",\
 \"model\":\"Generic\",\"name\":\"Default\"}}}";
 
-// The one command of the system.
+// The commands of the system.
 pub(crate) const COMMANDS: &str = "{\"core\":[{\"action\":\"shutdown\",\"name\":\"Shutdown\",\
-\"resource\":\"/api/system/commands/core/shutdown\",\"source\":\"core\"}],\
+\"resource\":\"/api/system/commands/core/shutdown\",\"source\":\"core\"},\
+{\"action\":\"backup\",\"name\":\"Backup\",\
+\"resource\":\"/api/system/commands/core/backup\",\"source\":\"core\"}],\
 \"custom\":[]}";
 
 // A reply with this text of JSON.

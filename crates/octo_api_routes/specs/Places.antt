@@ -37,6 +37,7 @@ routes =
     ∷ (codes "/api/queue/{user}/{name}", place.OthersEntry)
     ∷ (codes "/api/queue-next", place.NextEntry)
     ∷ (codes "/api/prints", place.Prints)
+    ∷ (codes "/api/system/commands/core/backup", place.Backup)
     ∷ (codes "/api/system/commands/core/shutdown", place.Shutdown)
     ∷ (codes "/api/server", place.Server)
     ∷ (codes "/api/settings", place.Settings)
@@ -109,6 +110,7 @@ target_at place.Entry path = option_map target.Entry (name_of_part (drop (length
 target_at place.OthersEntry path = others_entry (drop (length (codes "/api/queue/")) path)
 target_at place.NextEntry path = Some target.NextEntry
 target_at place.Prints path = Some target.Prints
+target_at place.Backup path = Some target.Backup
 target_at place.Shutdown path = Some target.Shutdown
 target_at place.Server path = Some target.Server
 target_at place.Settings path = Some target.Settings

@@ -27,6 +27,7 @@ pub(crate) enum Place {
     OthersEntry,
     NextEntry,
     Prints,
+    Backup,
     Shutdown,
     Server,
     Settings,
@@ -41,7 +42,7 @@ pub(crate) enum Place {
 // Each path, with `{..}` for one of its parts. Source: OctoPrint's REST API; the paths for users, the queue and the prints
 // are this project's own.
 #[tactic(auto, unfolding(crate::specs::Places::routes))]
-fn route_list() -> [(&'static str, Place); 27]
+fn route_list() -> [(&'static str, Place); 28]
     ensures { map (λ route. (route.0.now, route.1)) result ≡ routes }
 {
     [
@@ -63,6 +64,7 @@ fn route_list() -> [(&'static str, Place); 27]
         ("/api/queue/{user}/{name}", Place::OthersEntry),
         ("/api/queue-next", Place::NextEntry),
         ("/api/prints", Place::Prints),
+        ("/api/system/commands/core/backup", Place::Backup),
         ("/api/system/commands/core/shutdown", Place::Shutdown),
         ("/api/server", Place::Server),
         ("/api/settings", Place::Settings),

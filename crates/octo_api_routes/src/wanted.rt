@@ -127,6 +127,7 @@ fn wanted_by_post(target: &Target) -> Option<Wanted>
         Target::Printhead => Form::Printhead,
         Target::Files => return Some(Wanted::Upload),
         Target::NextEntry => return without_body(Some(Request::NextEntry)),
+        Target::Backup => return without_body(Some(Request::Backup)),
         Target::Shutdown => return without_body(Some(Request::Shutdown)),
         Target::Logout => return without_body(Some(Request::Caller)),
         _ => return None,
