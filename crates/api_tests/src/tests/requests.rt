@@ -65,6 +65,7 @@ fn name_of(request: &Request) -> &'static str {
         Request::SelectFile { print: true, .. } => "SelectFile and print",
         Request::SelectFile { print: false, .. } => "SelectFile",
         Request::NextEntry => "NextEntry",
+        Request::Backup => "Backup",
         Request::Shutdown => "Shutdown",
         _ => "another request",
     }

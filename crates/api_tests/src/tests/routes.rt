@@ -62,6 +62,7 @@ const PRINTER_PATHS: [(&str, &[&str]); 9] = [
     ("/api/printer/printhead", &["POST"]),
     ("/api/printer/command", &["POST"]),
     ("/api/job", &["GET", "HEAD", "POST"]),
+    ("/api/system/commands/core/backup", &["POST"]),
     ("/api/system/commands/core/shutdown", &["POST"]),
 ];
 

@@ -52,6 +52,7 @@ pub(super) enum Wish {
     AddUser(&'static str),
     // To switch tom off.
     SwitchOff,
+    Backup,
     Shutdown,
     Leave,
 }
@@ -102,6 +103,7 @@ fn plain_request(wish: Wish) -> Request {
         Wish::Queue => Request::ListQueue,
         Wish::Prints => Request::ListPrints,
         Wish::Users => Request::ListUsers,
+        Wish::Backup => Request::Backup,
         Wish::Shutdown => Request::Shutdown,
         Wish::Leave => Request::Leave,
         Wish::Caller => Request::Caller,

@@ -80,6 +80,14 @@ fn connections_need(rt: HostRuntime) {
 }
 
 #[test]
+fn backups_need(rt: HostRuntime) -> Result<(), Fail> {
+    needs(&rt, Request::Backup, &[Permission::System]);
+    let copy = Request::Backup.copy(rt.alloc())?;
+    assert!(rt; matches!(copy, Request::Backup));
+    Ok(())
+}
+
+#[test]
 fn nothing_is_needed(rt: HostRuntime) {
     for request in [Request::Caller, Request::Leave, Request::AutoConnect] {
         needs(&rt, request, &[]);

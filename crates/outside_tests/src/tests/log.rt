@@ -79,6 +79,18 @@ fn logged_prints(rt: HostRuntime) {
     assert!(rt; keeper.log().written() == Some(wanted));
 }
 
+// A backup that can't be made, and one that is.
+#[test]
+fn logged_backups(rt: HostRuntime) {
+    let alloc = rt.alloc();
+    let inner = MemoryKeeper::new(Tables::empty(alloc), only(&rt, alloc, 1));
+    let mut keeper = LoggedKeeper::new(inner, new_log(alloc), MemoryClock::new(1500, 0));
+    assert!(rt; keeper.backup(alloc).is_err());
+    assert!(rt; keeper.backup(alloc).is_ok());
+    let wanted: &[u8] = b"database: it can't be backed up\ndatabase: backed up\n";
+    assert!(rt; keeper.log().written() == Some(wanted));
+}
+
 // A file that is stored, and one that can't be deleted.
 #[test]
 fn logged_files(rt: HostRuntime) {

@@ -232,6 +232,7 @@ fn opened_keepers(rt: HostRuntime) {
     for fault in [KeeperFault::Failed, KeeperFault::NoMemory] {
         let mut unopened: Opened<MemoryKeeper> = Opened::new(Err(fault));
         assert!(rt; load_fault(alloc, &mut unopened) == Some(fault));
+        assert!(rt; unopened.backup(alloc) == Err(fault));
         assert!(rt; unopened.into_keeper().is_err());
     }
     let mut opened = Opened::new(Ok(keeper_of(alloc, no_rows(alloc), &[]).expect(
@@ -239,5 +240,6 @@ fn opened_keepers(rt: HostRuntime) {
         "no memory",
     )));
     assert!(rt; load_fault(alloc, &mut opened).is_none());
+    assert!(rt; opened.backup(alloc) == Ok(()));
     assert!(rt; opened.into_keeper().is_ok());
 }

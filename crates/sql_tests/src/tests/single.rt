@@ -74,3 +74,15 @@ fn ample_tables(rt: HostRuntime) -> Result<(), Fail> {
     assert!(rt; are_users_and_operators(ana.groups.as_slice()));
     Ok(())
 }
+
+// A database in memory has no place for a copy. What is refused leaves its rows.
+#[test]
+fn no_backup_in_memory(rt: HostRuntime) -> Result<(), Fail> {
+    let alloc = rt.alloc();
+    let mut keeper = empty_keeper(alloc)?;
+    assert!(rt; keeper.commit(alloc, &change()?).is_ok());
+    assert!(rt; keeper.backup(alloc) == Err(KeeperFault::Failed));
+    let tables = keeper.load(alloc).ok().ok_or("no tables")?;
+    assert!(rt; tables.users.as_slice().len() == 1);
+    Ok(())
+}

@@ -116,6 +116,8 @@ fn bodies_not_looked_at(rt: HostRuntime) -> Result<(), Fail> {
     assert!(rt; found == "NextEntry");
     let path = "/api/system/commands/core/shutdown";
     assert!(rt; faulty(alloc, Method::POST, path, true, false, "")? == "Shutdown");
+    let path = "/api/system/commands/core/backup";
+    assert!(rt; faulty(alloc, Method::POST, path, true, false, "")? == "Backup");
     Ok(())
 }
 

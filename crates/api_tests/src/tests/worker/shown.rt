@@ -34,7 +34,9 @@ const SHOWN: [(&str, &str); 9] = [
     (
         "/api/system/commands",
         "{\"core\":[{\"action\":\"shutdown\",\"name\":\"Shutdown\",\
-\"resource\":\"/api/system/commands/core/shutdown\",\"source\":\"core\"}],\"custom\":[]}",
+\"resource\":\"/api/system/commands/core/shutdown\",\"source\":\"core\"},\
+{\"action\":\"backup\",\"name\":\"Backup\",\
+\"resource\":\"/api/system/commands/core/backup\",\"source\":\"core\"}],\"custom\":[]}",
     ),
     (
         "/api/printer/tool",

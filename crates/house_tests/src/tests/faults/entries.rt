@@ -2,6 +2,7 @@
 use super::rows::{Calls, IDLE, ONE, Place, STORED, Step, calls_of};
 use crate::tests::seen::Seen;
 use crate::tests::wishes::Wish;
+use octo_access::Permission;
 use print_queue::Outcome;
 use test_makers::{ANA, BEN, ROOT};
 
@@ -111,4 +112,30 @@ const USERS: &[Step] = &[
 fn users(rt: HostRuntime) {
     assert_eq!(rt; calls_of(&rt, rt.alloc(), USERS, Place::AtKeeper), 2);
     assert_eq!(rt; calls_of(&rt, rt.alloc(), USERS, Place::AtShelf), 0);
+}
+
+const BACKUPS: &[Step] = &[
+    (
+        ANA,
+        Wish::Backup,
+        Calls::Neither,
+        Seen::Denied(Some(Permission::System)),
+    ),
+    (ROOT, Wish::Backup, Calls::OfKeeper, Seen::Accepted),
+    (ANA, Wish::Upload(ONE, false), Calls::OfShelf, STORED),
+    (
+        ANA,
+        Wish::Put("job-1", 5, 1, "any"),
+        Calls::OfKeeper,
+        Seen::OneEntry(5, 1),
+    ),
+    (ROOT, Wish::Backup, Calls::OfKeeper, Seen::Accepted),
+    (ANA, Wish::Queue, Calls::Neither, Seen::Entries(1, 1)),
+];
+
+// A backup is for one with the permission SYSTEM. Done or failed, it leaves all as it was.
+#[test]
+fn backups(rt: HostRuntime) {
+    assert_eq!(rt; calls_of(&rt, rt.alloc(), BACKUPS, Place::AtKeeper), 3);
+    assert_eq!(rt; calls_of(&rt, rt.alloc(), BACKUPS, Place::AtShelf), 1);
 }

@@ -122,6 +122,24 @@ fn ample_entries(rt: HostRuntime) {
     assert!(rt; counts(alloc, &mut keeper) == Some((0, 0, 0)));
 }
 
+// How many entries the last backup has.
+fn saved_entries(keeper: &MemoryKeeper) -> Option<usize> {
+    Some(keeper.saved()?.queue.as_slice().len())
+}
+
+// A backup fails, and the next one has the entry that was put. Both leave the tables.
+#[test]
+fn backups(rt: HostRuntime) {
+    let alloc = rt.alloc();
+    let mut keeper = keeper(alloc, only(&rt, alloc, 2));
+    assert_eq!(rt; puts_entry(&rt, alloc, &mut keeper), Ok(()));
+    assert_eq!(rt; keeper.backup(alloc), Err(KeeperFault::Failed));
+    assert_eq!(rt; saved_entries(&keeper), None);
+    assert_eq!(rt; keeper.backup(alloc), Ok(()));
+    assert_eq!(rt; saved_entries(&keeper), Some(1));
+    assert!(rt; counts(alloc, &mut keeper) == Some((0, 1, 0)));
+}
+
 // A user is added and switched off.
 #[test]
 fn ample_users(rt: HostRuntime) {
