@@ -1,6 +1,7 @@
 """Backups of the database of a running host; see backup.sh."""
 
 import os
+import shutil
 import subprocess
 import sys
 import tempfile
@@ -8,9 +9,12 @@ import threading
 import time
 
 sys.path.insert(0, "scripts/lib")
-from serving import LIMIT, Host, free_port  # noqa: E402
+from serving import LIMIT, Host, exchange, free_port, message, until  # noqa: E402
 
 TOOL = "crates/keeper_tool/out/keeper_tool"
+PATH = "/api/system/commands/core/backup"
+# How many records are added before a host is killed by time, so that its backup takes a while.
+PRINTS = 5000
 failed = False
 
 
@@ -23,6 +27,13 @@ def check(name, found, wanted):
         failed = True
 
 
+def add_user(host, number):
+    """Adds a user without the permission SYSTEM, and returns the name if that is answered."""
+    name = "user%03d" % number
+    user = {"name": name, "key": "%016d" % number, "groups": ["users"]}
+    return name if host.post("/api/access/users", user).status == 201 else None
+
+
 class Users:
     """Users that are added one after the other. Each change of the list is in one of the replies."""
 
@@ -30,89 +41,187 @@ class Users:
         self.host, self.answered, self.ended = host, [], threading.Event()
         self.thread = threading.Thread(target=self.add_all, daemon=True)
 
-    def add(self):
-        name = "user%03d" % len(self.answered)
-        user = {"name": name, "key": "%016d" % len(self.answered), "groups": ["users"]}
-        if self.host.post("/api/access/users", user).status == 201:
-            self.answered.append(name)
-
     def add_all(self):
-        while not self.ended.wait(0.35):
-            self.add()
+        while not self.ended.is_set():
+            name = add_user(self.host, len(self.answered))
+            if name:
+                self.answered.append(name)
 
     def end(self):
         self.ended.set()
         self.thread.join()
 
 
-def backup(database, copy):
-    return subprocess.Popen(["examples/octo-backup", database, copy], env={**os.environ, "KEEPER_TOOL": TOOL}, start_new_session=True)
+def backup(host):
+    return host.post(PATH).status
 
 
 def users_of(host):
     return [user["name"] for user in host.ask("GET", "/api/access/users").json()["users"]]
 
 
-def tool_of(database):
-    return subprocess.run([TOOL, database], capture_output=True, timeout=LIMIT).returncode
+def beside(host):
+    """The endings of what is beside the database and its log."""
+    name = os.path.basename(host.database)
+    found = [other[len(name):] for other in os.listdir(host.folder) if other.startswith(name)]
+    return sorted(ending for ending in found if ending not in ("", "-wal"))
 
 
-def host_over(folder, copy):
-    """A new host over that database."""
-    host = Host(folder, free_port())
-    host.database = copy
-    return host.start()
+def taken(host, folder, name):
+    """The copy in a folder of its own, where no log is beside it."""
+    place = os.path.join(folder, name)
+    os.makedirs(place, exist_ok=True)
+    return shutil.copy(host.database + ".backup", os.path.join(place, "octo.db"))
 
 
-def restores(folder, database, users):
-    """A backup while users are added: the copy has all whose reply came before it began, and those of its moment."""
-    copy = os.path.join(folder, "copy.db")
-    before = list(users.answered)
-    check("a backup while a host runs", backup(database, copy).wait(LIMIT), 0)
-    check("its files", sorted(name for name in os.listdir(folder) if name.startswith("copy.db")), ["copy.db"])
-    check("its mode", oct(os.stat(copy).st_mode & 0o777), "0o600")
-    other = host_over(os.path.join(folder, "other"), copy)
+def users_in(folder, copy):
+    """The users of a host over a copy, whose key is its own."""
+    other = Host(os.path.join(folder, "other"), free_port())
+    other.database = copy
+    other.start()
     try:
         held = users_of(other)
-        check("the users of a host over it", len(before) > 0 and held == users.answered[:len(held)] and len(held) >= len(before), True)
-        check("the end of that host", other.shut_down()[0], 0)
+        check("the end of a host over a copy", other.shut_down()[0], 0)
+        return held
     finally:
         other.kill()
 
 
-def killed(folder, database, after):
-    """A backup that is killed leaves no copy, or a whole one."""
-    copy = os.path.join(folder, "killed.db")
-    process = backup(database, copy)
-    time.sleep(after)
-    os.killpg(process.pid, 9)
-    process.wait()
-    whole = not os.path.exists(copy) or tool_of(copy) == 0
-    check("a backup killed after %.2f s" % after, whole, True)
-    check("the next one", (backup(database, copy).wait(LIMIT), tool_of(copy)), (0, 0))
-    os.remove(copy)
-    os.path.exists(copy + "-wal") and os.remove(copy + "-wal")
+def is_sound(copy):
+    return subprocess.run([TOOL, copy], capture_output=True, timeout=LIMIT).returncode == 0
+
+
+def restores(folder, host):
+    """Backups while users are added: each has those whose reply came before it, and perhaps the one of its moment."""
+    users = Users(host)
+    users.thread.start()
+    until("some users", lambda: len(users.answered) > 3)
+    for turn in range(3):
+        before = list(users.answered)
+        check("a backup while a host runs", backup(host), 204)
+        after = len(users.answered)
+        copy = taken(host, folder, "copy%d" % turn)
+        check("what is beside the database", beside(host), [".backup"])
+        check("its mode", oct(os.stat(host.database + ".backup").st_mode & 0o777), "0o600")
+        held = users_in(folder, copy)
+        whole = held == users.answered[:len(held)] and len(before) <= len(held) <= after + 1
+        check("the users of a host over it", whole, True)
+    users.end()
+    check("the users of the host", users_of(host), users.answered)
+    return users.answered
+
+
+def refused(host):
+    """A backup that isn't made leaves the former one as it is."""
+    copy = host.database + ".backup"
+    was = os.stat(copy)
+    check("one by a user without the permission", exchange(host.port, message("POST", PATH, "%016d" % 0)).status, 403)
+    check("one by nobody", exchange(host.port, message("POST", PATH, "")).status, 403)
+    open(copy + "-wal", "w").close()
+    check("one while a log is beside the copy", backup(host), 503)
+    check("what is beside the database then", beside(host), [".backup", ".backup-wal"])
+    os.remove(copy + "-wal")
+    os.mkdir(copy + ".part")
+    check("one that can't be written", backup(host), 503)
+    os.rmdir(copy + ".part")
+    now = os.stat(copy)
+    check("the former copy", (now.st_ino, now.st_mtime_ns), (was.st_ino, was.st_mtime_ns))
+    check("the next one", backup(host), 204)
+
+
+def ask_and_lose(host):
+    """Asks for a backup of a host that may be killed meanwhile: the status, or None."""
+    try:
+        return backup(host) or None
+    except OSError:
+        return None
+
+
+def after_kill(folder, host, users):
+    """Whether a host that was killed during a backup left its database and a whole copy or none; it is started again."""
+    host.process.wait()
+    left = beside(host)
+    sound = ".backup" not in left or is_sound(taken(host, folder, "left"))
+    host.start()
+    return sound and ".backup-wal" not in left and users_of(host) == users
+
+
+def cannot_trace():
+    """Why no call can be traced on this machine, or None."""
+    if not shutil.which("strace"):
+        return "strace is missing"
+    run = subprocess.run(["strace", "-o", os.devnull, "true"], capture_output=True)
+    return None if run.returncode == 0 else "strace may not trace here"
+
+
+def killed_at(host, number):
+    """Kills the host at the call of this number on the copy, its parts or its folder; returns whether the backup had fewer."""
+    paths = [host.database + ending for ending in (".backup", ".backup.part", ".backup.part-wal", ".backup-wal")]
+    words = ["strace", "-f", "-o", os.devnull, "-e", "trace=all", "-e", "inject=all:signal=KILL:when=%d" % number]
+    for path in [host.folder, *paths]:
+        words += ["-P", path]
+    tracer = subprocess.Popen([*words, "-p", str(host.process.pid)], stderr=subprocess.PIPE)
+    # It says so once it is attached.
+    tracer.stderr.readline()
+    status = ask_and_lose(host)
+    if status is None:
+        host.process.wait()
+    else:
+        tracer.terminate()
+    tracer.wait()
+    return status == 204
+
+
+def killed_at_each_call(folder, host, users):
+    """A kill at each call of a backup, with and without a former copy."""
+    why = cannot_trace()
+    if why:
+        print("skipped: kills at each call of a backup: " + why, flush=True)
+        return
+    for name in ("without a former copy", "over a former copy"):
+        number, sound = 1, True
+        if name.startswith("without"):
+            os.remove(host.database + ".backup")
+        while number < 400 and not killed_at(host, number):
+            sound = after_kill(folder, host, users) and sound
+            if name.startswith("without") and ".backup" in beside(host):
+                os.remove(host.database + ".backup")
+            number += 1
+        check("a kill at each of %d calls of a backup %s" % (number - 1, name), (sound, 10 < number < 400), (True, True))
+        check("the backup at which none is left", (beside(host), is_sound(taken(host, folder, "last"))), ([".backup"], True))
+
+
+def killed_by_time(folder, host, users):
+    """A kill at moments of a longer backup."""
+    host.shut_down()
+    if subprocess.run([TOOL, host.database, "prints", str(PRINTS)], capture_output=True).returncode != 0:
+        raise SystemExit("no prints were added")
+    host.start()
+    begun = time.monotonic()
+    check("a backup with %d prints" % PRINTS, backup(host), 204)
+    whole = time.monotonic() - begun
+    sound = True
+    for turn in range(25):
+        thread = threading.Thread(target=ask_and_lose, args=(host,))
+        thread.start()
+        time.sleep(whole * turn / 20)
+        host.process.kill()
+        thread.join()
+        sound = after_kill(folder, host, users) and sound
+    check("kills at 25 moments of a backup", sound, True)
+    check("the next one", (backup(host), beside(host), is_sound(taken(host, folder, "next"))), (204, [".backup"], True))
 
 
 def main():
     with tempfile.TemporaryDirectory() as folder:
-        os.mkdir(os.path.join(folder, "other"))
-        host = Host(folder, free_port()).start()
-        users = Users(host)
-        users.add()
-        users.thread.start()
+        host = Host(os.path.join(folder, "host"), free_port()).start()
         try:
-            restores(folder, host.database, users)
-            for after in (0, 0.1, 0.25, 0.3, 0.5):
-                killed(folder, host.database, after)
-            users.end()
-            check("a database that is missing", backup(os.path.join(folder, "none"), os.path.join(folder, "copy")).wait(LIMIT), 1)
-            check("the host's users", users_of(host), sorted(users.answered))
+            users = restores(folder, host)
+            refused(host)
+            killed_at_each_call(folder, host, users)
+            killed_by_time(folder, host, users)
             check("the end of the host", host.shut_down()[0], 0)
-            copy = os.path.join(folder, "later.db")
-            check("a backup of a database at rest", (backup(host.database, copy).wait(LIMIT), tool_of(copy)), (0, 0))
         finally:
-            users.end()
             host.kill()
 
 

@@ -1,6 +1,6 @@
 #!/bin/sh
-# examples/octo-backup copies the database of a running host, also if the script is killed: a host over the copy has every change that was
-# answered before.
+# A backup of the database of a running host: a host over the copy has every change that was answered before. A host that is killed at any
+# call of a backup leaves its database as it was, and a copy that is whole, or none.
 set -u
 cd "$(dirname "$0")/../.." || exit 2
 scripts/build octo keeper_tool || exit 1
