@@ -60,6 +60,10 @@ caller_key fields query = or_else (key_of fields) (query_key true query)
 abbrev pub kind_of : FieldList → Option (List ℕ)
 kind_of fields = first_of (values (codes "Content-Type") fields)
 
+-- the origin of the page that sends the message (RFC 6454, section 7)
+abbrev pub origin_of : FieldList → Option (List ℕ)
+origin_of fields = first_of (values (codes "Origin") fields)
+
 -- whether the body is said to have a coding
 abbrev pub is_encoded : FieldList → Bool
 is_encoded fields = one_is_not (codes "identity") (values (codes "Content-Encoding") fields)

@@ -3,7 +3,7 @@ use Rattle.std.specs.Prelude.{◌≡◌, ℕ, ◌<◌, ◌≤◌, ◌⊎◌, Boo
 use Rattle.std.specs.List.{take_while, prefix_len}
 use Rattle.httparse.specs.Grammar.{RequestHead, ReadsRequest, HasNoRequest, NeverHasRequest, MayBecomeRequest}
 use Rattle.httparse.specs.Spans.{name_and_value, RequestExceeds}
-use Rattle.octo_http.specs.Fields.{FieldList, caller_key, kind_of, is_encoded, expects_continue}
+use Rattle.octo_http.specs.Fields.{FieldList, caller_key, origin_of, kind_of, is_encoded, expects_continue}
 use Rattle.octo_http.specs.Framing.{framing_of}
 use Rattle.octo_http.specs.declared.fault.MessageFault.{MessageFault}
 use Rattle.octo_http.specs.declared.fault.MessageFault.TheVariants.{BadHead, HeadTooLarge, BodyTooLarge, BadChunk, Ended, ReadFault, NoMemory, Slow}
@@ -37,6 +37,7 @@ head_with method target fields framing = record {
   method = method;
   path = take_while is_path_byte target;
   key = caller_key fields (query_of target);
+  origin = origin_of fields;
   kind = kind_of fields;
   encoded = is_encoded fields;
   expects = expects_continue fields;

@@ -37,6 +37,7 @@ message_of head body = record {
   method = head.method;
   path = head.path;
   key = head.key;
+  origin = head.origin;
   kind = head.kind;
   sized = is_sized head.framing;
   encoded = head.encoded;

@@ -37,6 +37,10 @@ sent_body status Empty body = []
 sent_body status Json body = if status == 204 then [] else body
 sent_body status Bytes body = if status == 204 then [] else body
 
+-- a reply with more fields before its own
+abbrev pub with_fields : List ℕ → HttpReply → HttpReply
+with_fields more r = record r { fields = record { items = more ++ r.fields.items } }
+
 -- all that is before the body of a reply
 abbrev pub reply_head : HttpReply → List ℕ
 reply_head r = head_bytes r.status r.kind (length (sent_body r.status r.kind r.body)) r.fields.items

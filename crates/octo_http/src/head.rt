@@ -27,6 +27,8 @@ pub struct Head {
     pub path: Blob,
     /// The caller's key.
     pub key: Option<Blob>,
+    /// The origin of the page that sends the message.
+    pub origin: Option<Blob>,
     /// The body's type.
     pub kind: Option<Blob>,
     /// Whether the body is said to have a coding other than identity.
@@ -172,11 +174,13 @@ fn head_of(
     let target = request.path.of(bytes);
     let path = Blob::from_slice(alloc, path_of(target))?;
     let key = copy_of(alloc, caller_key(fields, query_of(target)))?;
+    let origin = copy_of(alloc, fields.first(b"Origin"))?;
     let kind = copy_of(alloc, fields.first(b"Content-Type"))?;
     Ok(Head {
         method,
         path,
         key,
+        origin,
         kind,
         encoded: fields.one_is_not(b"Content-Encoding", b"identity"),
         expects: fields.one_is(b"Expect", b"100-continue"),

@@ -20,6 +20,8 @@ pub struct Message {
     pub path: Blob,
     /// The caller's key: the first X-Api-Key, else the key of an `Authorization: Bearer`, else the `apikey` of the query.
     pub key: Option<Blob>,
+    /// The origin of the page that sends the message, as the first Origin names it. Source: RFC 6454, section 7.
+    pub origin: Option<Blob>,
     /// The body's type, as Content-Type names it.
     pub kind: Option<Blob>,
     /// Whether a length or chunks were given.
@@ -73,6 +75,7 @@ fn message_of(head: Head, body: Blob) -> Message
         method,
         path,
         key,
+        origin,
         kind,
         encoded,
         expects: _,
@@ -82,6 +85,7 @@ fn message_of(head: Head, body: Blob) -> Message
         method,
         path,
         key,
+        origin,
         kind,
         sized: framing != Framing::NoBody,
         encoded,

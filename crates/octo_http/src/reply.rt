@@ -3,7 +3,7 @@ ghost use Rattle.std.specs.Prelude.{◌≡◌, ◌≤◌, ◌<◌, ◌+◌, ◌+
 ghost use Rattle.arrayvec.specs.ArrayVec.{array_vec_len};
 ghost use Rattle.octo_outside.specs.Recorded.{Adds, AddsPrefix, Counts};
 ghost use Rattle.octo_http.specs.Part.{crlf};
-ghost use Rattle.octo_http.specs.Reply.{reason_of, phrase_of, first_lines, type_line, head_bytes, sent_body, reply_head, reply_bytes};
+ghost use Rattle.octo_http.specs.Reply.{reason_of, phrase_of, first_lines, type_line, head_bytes, sent_body, with_fields, reply_head, reply_bytes};
 
 use arrayvec::ArrayVec;
 use byte_text::{append, append_decimal};
@@ -31,14 +31,14 @@ pub struct HttpReply {
     pub body: Blob,
 }
 
-/// Fields of a reply, each a line with its line end: at most 256 bytes. Source: RFC 9112, section 5.
-pub type FieldLines = ArrayVec<u8, 256>;
+/// Fields of a reply, each a line with its line end: at most 320 bytes. Source: RFC 9112, section 5.
+pub type FieldLines = ArrayVec<u8, 320>;
 
 /// The status of a reply without a body, a length or a type. Source: RFC 9110, section 15.3.5.
 pub const NO_CONTENT: u16 = 204;
 
 // The lines and fields before a body.
-type ReplyHead = ArrayVec<u8, 448>;
+type ReplyHead = ArrayVec<u8, 832>;
 
 // The phrase of a status code, empty if it has none.
 fn reason_of(code: &StatusCode) -> &'static str
@@ -110,26 +110,28 @@ fn put_content(head: &mut ReplyHead, kind: ReplyKind, count: usize)
     append(head, type_line(kind));
 }
 
-// Adds the further fields, and the line end after them.
-fn put_end(head: &mut ReplyHead, fields: &FieldLines)
+// Adds more fields, the reply's own, and the line end after them.
+fn put_end(head: &mut ReplyHead, more: &FieldLines, fields: &FieldLines)
     requires { array_vec_len head.old ≤ 160 }
-    ensures { head.new.items ≡ head.old.items ++ fields.now.items ++ crlf }
+    ensures { head.new.items ≡ head.old.items ++ (more.now.items ++ fields.now.items) ++ crlf }
 {
+    append(head, more.as_slice());
     append(head, fields.as_slice());
     append(head, b"\r\n");
 }
 
-// All that is before the body.
-fn head_of(status: u16, kind: ReplyKind, count: usize, fields: &FieldLines) -> ReplyHead
-    ensures { result.items ≡ head_bytes status kind count fields.now.items }
+// All that is before a body of this length.
+fn head_of(reply: &HttpReply, count: usize, more: &FieldLines) -> ReplyHead
+    ensures { result.items ≡ head_bytes reply.now.status reply.now.kind count
+        (more.now.items ++ reply.now.fields.items) }
 {
-    let mut head = first_lines(status);
-    if status == NO_CONTENT {
-        put_end(&mut head, fields);
+    let mut head = first_lines(reply.status);
+    if reply.status == NO_CONTENT {
+        put_end(&mut head, more, &reply.fields);
         return head;
     }
-    put_content(&mut head, kind, count);
-    put_end(&mut head, fields);
+    put_content(&mut head, reply.kind, count);
+    put_end(&mut head, more, &reply.fields);
     head
 }
 
@@ -142,35 +144,44 @@ fn sent_body(reply: &HttpReply) -> &[u8]
     reply.body.as_slice()
 }
 
-/// Writes the bytes of a reply; after a failed call a prefix of them was written. Source: RFC 9112, section 4.
-pub fn write_reply<C: Conn>(conn: &mut C, reply: &HttpReply) -> Result<(), Failed>
-    ensures ok { OnOk result
-        (Adds (C.written conn.old) (C.written conn.new) (reply_bytes reply.now)) }
-    ensures err { OnErr result
-        (AddsPrefix (C.written conn.old) (C.written conn.new) (reply_bytes reply.now)) }
+/// Writes the bytes of a reply with more fields before its own; after a failed call a prefix of them was written.
+/// Source: RFC 9112, section 4.
+pub fn write_reply<C: Conn>(
+    conn: &mut C,
+    reply: &HttpReply,
+    more: &FieldLines,
+) -> Result<(), Failed>
+    ensures ok { OnOk result (Adds (C.written conn.old) (C.written conn.new)
+        (reply_bytes (with_fields more.now.items reply.now))) }
+    ensures err { OnErr result (AddsPrefix (C.written conn.old) (C.written conn.new)
+        (reply_bytes (with_fields more.now.items reply.now))) }
     ensures left { C.left conn.new ≡ C.left conn.old }
     ensures quiets { C.quiets conn.new ≡ C.quiets conn.old }
     ensures counts { Counts (IsErr result) (C.faults conn.old) (C.faults conn.new) }
 {
     let body = sent_body(reply);
-    let head = head_of(reply.status, reply.kind, body.len(), &reply.fields);
+    let head = head_of(reply, body.len(), more);
     send_all(conn, head.as_slice())?;
     send_all(conn, body)?;
     Ok(())
 }
 
-/// Writes a reply without its body, as it is sent to `HEAD`: the length is that of the body. After a failed call a prefix was
-/// written. Source: RFC 9110, section 9.3.2.
-pub fn write_head<C: Conn>(conn: &mut C, reply: &HttpReply) -> Result<(), Failed>
-    ensures ok { OnOk result
-        (Adds (C.written conn.old) (C.written conn.new) (reply_head reply.now)) }
-    ensures err { OnErr result
-        (AddsPrefix (C.written conn.old) (C.written conn.new) (reply_head reply.now)) }
+/// Writes a reply with more fields and without its body, as it is sent to `HEAD`: the length is that of the body. After a
+/// failed call a prefix was written. Source: RFC 9110, section 9.3.2.
+pub fn write_head<C: Conn>(
+    conn: &mut C,
+    reply: &HttpReply,
+    more: &FieldLines,
+) -> Result<(), Failed>
+    ensures ok { OnOk result (Adds (C.written conn.old) (C.written conn.new)
+        (reply_head (with_fields more.now.items reply.now))) }
+    ensures err { OnErr result (AddsPrefix (C.written conn.old) (C.written conn.new)
+        (reply_head (with_fields more.now.items reply.now))) }
     ensures left { C.left conn.new ≡ C.left conn.old }
     ensures quiets { C.quiets conn.new ≡ C.quiets conn.old }
     ensures counts { Counts (IsErr result) (C.faults conn.old) (C.faults conn.new) }
 {
     let count = sent_body(reply).len();
-    let lines = head_of(reply.status, reply.kind, count, &reply.fields);
+    let lines = head_of(reply, count, more);
     send_all(conn, lines.as_slice())
 }

@@ -1,6 +1,7 @@
-//! The caller's key: in a field, else in the query.
+//! The caller's key: in a field, else in the query; and the origin of the page that sends a message.
 use super::read;
 use octo_http::Message;
+use octo_outside::Blob;
 use std::alloc::Global;
 use std::process::Abort;
 use std::test::Fail;
@@ -59,4 +60,28 @@ fn each_says(rt: &impl Abort, alloc: Global, rows: &[(&str, Option<&str>)]) -> R
 #[test]
 fn keys(rt: HostRuntime) -> Result<(), Fail> {
     each_says(&rt, rt.alloc(), &KEYS)
+}
+
+// The origin of this input's message.
+fn origin_of(alloc: Global, input: &str) -> Result<Option<Blob>, Fail> {
+    Ok(read(alloc, input.as_bytes())??.origin)
+}
+
+// Whether the message of this input has this origin.
+fn comes_from(alloc: Global, input: &str, origin: Option<&str>) -> Result<bool, Fail> {
+    match (origin_of(alloc, input)?, origin) {
+        (Some(found), Some(origin)) => Ok(found.as_slice() == origin.as_bytes()),
+        (found, origin) => Ok(found.is_none() && origin.is_none()),
+    }
+}
+
+#[test]
+fn origins(rt: HostRuntime) -> Result<(), Fail> {
+    let alloc = rt.alloc();
+    assert!(rt; comes_from(alloc, "GET / HTTP/1.1\r\n\r\n", None)?);
+    let one = "GET / HTTP/1.1\r\norigin: http://a:8080\r\n\r\n";
+    assert!(rt; comes_from(alloc, one, Some("http://a:8080"))?);
+    let two = "GET / HTTP/1.1\r\nOrigin: null\r\nOrigin: http://b\r\n\r\n";
+    assert!(rt; comes_from(alloc, two, Some("null"))?);
+    Ok(())
 }

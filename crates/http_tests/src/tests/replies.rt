@@ -42,9 +42,25 @@ fn further_fields(rt: HostRuntime) -> Result<(), Fail> {
     let mut reply = is_printing(alloc)?;
     reply.fields = FieldLines::new();
     append(&mut reply.fields, b"Allow: GET\r\nX: y\r\n");
-    assert_eq!(rt; write_reply(&mut conn, &reply), Ok(()));
+    assert_eq!(rt; write_reply(&mut conn, &reply, &FieldLines::new()), Ok(()));
     let written = b"HTTP/1.1 409 Conflict\r\nConnection: close\r\nContent-Length: 41\r\n\
 Content-Type: application/json\r\nAllow: GET\r\nX: y\r\n\r\n{\"error\":\"WrongState\",\"state\":\"Printing\"}";
+    assert!(rt; has_written(&conn, written));
+    Ok(())
+}
+
+// Fields that are sent before the reply's own.
+#[test]
+fn fields_before_others(rt: HostRuntime) -> Result<(), Fail> {
+    let alloc = rt.alloc();
+    let mut conn = conn_of(alloc, b"")?;
+    let mut reply = is_printing(alloc)?;
+    append(&mut reply.fields, b"Allow: GET\r\n");
+    let mut more = FieldLines::new();
+    append(&mut more, b"Vary: Origin\r\n");
+    assert_eq!(rt; write_head(&mut conn, &reply, &more), Ok(()));
+    let written = b"HTTP/1.1 409 Conflict\r\nConnection: close\r\nContent-Length: 41\r\n\
+Content-Type: application/json\r\nVary: Origin\r\nAllow: GET\r\n\r\n";
     assert!(rt; has_written(&conn, written));
     Ok(())
 }
@@ -54,7 +70,10 @@ Content-Type: application/json\r\nAllow: GET\r\nX: y\r\n\r\n{\"error\":\"WrongSt
 fn head_alone(rt: HostRuntime) -> Result<(), Fail> {
     let alloc = rt.alloc();
     let mut conn = conn_of(alloc, b"")?;
-    assert_eq!(rt; write_head(&mut conn, &is_printing(alloc)?), Ok(()));
+    assert_eq!(rt;
+        write_head(&mut conn, &is_printing(alloc)?, &FieldLines::new()),
+        Ok(())
+    );
     let written = b"HTTP/1.1 409 Conflict\r\nConnection: close\r\nContent-Length: 41\r\n\
 Content-Type: application/json\r\n\r\n";
     assert!(rt; has_written(&conn, written));
@@ -67,7 +86,10 @@ fn leave_and_reply(rt: HostRuntime) -> Result<(), Fail> {
     let alloc = rt.alloc();
     let mut conn = conn_of(alloc, UPLOAD)?;
     assert_eq!(rt; body_length(alloc, &mut conn)?, 142);
-    assert_eq!(rt; write_reply(&mut conn, &is_printing(alloc)?), Ok(()));
+    assert_eq!(rt;
+        write_reply(&mut conn, &is_printing(alloc)?, &FieldLines::new()),
+        Ok(())
+    );
     let written =
         b"HTTP/1.1 100 Continue\r\n\r\nHTTP/1.1 409 Conflict\r\nConnection: close\r\nContent-Length: 41\r\n\
 Content-Type: application/json\r\n\r\n{\"error\":\"WrongState\",\"state\":\"Printing\"}";
