@@ -9,12 +9,13 @@ use Rattle.octo_access.specs.declared.row.Admin.{Admin}
 use Rattle.octo_settings.specs.Config.{document_of, settings_in, settings_or, config, plain_settings}
 use Rattle.octo_settings.specs.Groups.{groups_of}
 use Rattle.octo_settings.specs.Scripts.{scripts_of}
-use Rattle.octo_settings.specs.Sections.{ports_of, material_of, boot_of, flag_of, printer_in, printer_of, limits_of, admin_of, patience_in, patience_of}
+use Rattle.octo_settings.specs.Sections.{ports_of, material_of, boot_of, flag_of, printer_in, printer_of, limits_of, admin_of, serve_in, serve_of, origins_of}
 use Rattle.octo_settings.specs.Sound.{AreScripts, IsSettings}
 use Rattle.octo_settings.specs.Values.{Reads, and_then, section, whole}
 use Rattle.octo_settings.specs.declared.fault.SettingsFault.{SettingsFault}
 use Rattle.octo_settings.specs.declared.fault.SettingsFault.TheVariants.{OutOfRange}
 use Rattle.octo_settings.specs.declared.sections.Printer.{Printer}
+use Rattle.octo_settings.specs.declared.sections.Serve.{Serve}
 use Rattle.octo_settings.specs.declared.settings.Settings.{Settings}
 use Rattle.octo_settings.proofs.ScriptsSound.{made, all-scripts-sound, none-at}
 
@@ -90,14 +91,29 @@ printer-in-sound members p h =
 printer-sound : (value : Option Data) (p : Printer) → printer_of value ≡ Ok p → IsPrinter p
 printer-sound value p h = let m = made (section (codes "printer") value) printer_in p h in printer-in-sound m.0 p m.2
 
-patience-sound : (value : Option Data) (n : ℕ) → patience_of value ≡ Ok n → 1 ≤ n
-patience-sound value n h =
-    let m = made (section (codes "serve") value) patience_in n h in
-    at-least-one (codes "serve.patience") 1 4000000000 6000 (get_member (codes "patience") m.0) n (omega arith) (omega arith) (omega arith) m.2
+serve-by : (patience : Result ℕ SettingsFault) (origins : Result (List (List ℕ)) SettingsFault) (s : Serve) → ((n : ℕ) → patience ≡ Ok n → 1 ≤ n)
+    → and_then patience (λ n. and_then origins (λ o. Ok (record { patience = n; origins = o }))) ≡ Ok s → 1 ≤ s.patience
+serve-by (Err fault) origins s some h = absurd (cc)
+serve-by (Ok n) (Err fault) s some h = absurd (cc)
+serve-by (Ok n) (Ok o) s some h =
+    let same : record { patience = n; origins = o } ≡ s = cc in
+    subst (λ (x : Serve). 1 ≤ x.patience) same (some n refl)
+
+serve-in-sound : (members : Members) (s : Serve) → serve_in members ≡ Ok s → 1 ≤ s.patience
+serve-in-sound members s h =
+    serve-by
+    (whole (codes "serve.patience") 1 4000000000 6000 (get_member (codes "patience") members))
+    (origins_of (codes "serve.origins") (get_member (codes "origins") members))
+    s
+    (λ n is. at-least-one (codes "serve.patience") 1 4000000000 6000 (get_member (codes "patience") members) n (omega arith) (omega arith) (omega arith) is)
+    h
+
+serve-sound : (value : Option Data) (s : Serve) → serve_of value ≡ Ok s → 1 ≤ s.patience
+serve-sound value s h = let m = made (section (codes "serve") value) serve_in s h in serve-in-sound m.0 s m.2
 
 -- settings of their sections
-abbrev whole-settings : Printer → Limits → Admin → ℕ → List GroupData → ScriptTexts → Settings
-whole-settings p limits admin patience groups scripts =
+abbrev whole-settings : Printer → Limits → Admin → Serve → List GroupData → ScriptTexts → Settings
+whole-settings p limits admin serve groups scripts =
     record {
       ports = p.ports;
       window = p.window;
@@ -108,18 +124,19 @@ whole-settings p limits admin patience groups scripts =
       connect = p.connect;
       limits = limits;
       admin = Some admin;
-      patience = patience;
+      patience = serve.patience;
+      origins = serve.origins;
       groups = groups;
       scripts = scripts;
     }
 
-settings-made : (p : Printer) (limits : Limits) (admin : Admin) (patience : ℕ) (groups : List GroupData) (scripts : Result ScriptTexts SettingsFault)
+settings-made : (p : Printer) (limits : Limits) (admin : Admin) (serve : Serve) (groups : List GroupData) (scripts : Result ScriptTexts SettingsFault)
     (s : Settings)
-    → IsPrinter p → 1 ≤ patience → ((texts : ScriptTexts) → scripts ≡ Ok texts → AreScripts limits texts)
-    → and_then scripts (λ texts. Ok (whole-settings p limits admin patience groups texts)) ≡ Ok s → IsSettings s
-settings-made p limits admin patience groups (Err fault) s printer some each h = absurd (cc)
-settings-made p limits admin patience groups (Ok texts) s printer some each h =
-    let same : whole-settings p limits admin patience groups texts ≡ s = cc in
+    → IsPrinter p → 1 ≤ serve.patience → ((texts : ScriptTexts) → scripts ≡ Ok texts → AreScripts limits texts)
+    → and_then scripts (λ texts. Ok (whole-settings p limits admin serve groups texts)) ≡ Ok s → IsSettings s
+settings-made p limits admin serve groups (Err fault) s printer some each h = absurd (cc)
+settings-made p limits admin serve groups (Ok texts) s printer some each h =
+    let same : whole-settings p limits admin serve groups texts ≡ s = cc in
     subst IsSettings same (record {
       open_window = printer.open_window;
       small_window = printer.small_window;
@@ -130,16 +147,16 @@ settings-made p limits admin patience groups (Ok texts) s printer some each h =
     })
 
 settings-by : (printer : Result Printer SettingsFault) (limits : Result Limits SettingsFault) (admin : Result Admin SettingsFault)
-    (patience : Result ℕ SettingsFault)
+    (serve : Result Serve SettingsFault)
     (groups : Result (List GroupData) SettingsFault) (scripts : Limits → Result ScriptTexts SettingsFault) (s : Settings)
-    → ((p : Printer) → printer ≡ Ok p → IsPrinter p) → ((n : ℕ) → patience ≡ Ok n → 1 ≤ n)
+    → ((p : Printer) → printer ≡ Ok p → IsPrinter p) → ((n : Serve) → serve ≡ Ok n → 1 ≤ n.patience)
     → ((l : Limits) (texts : ScriptTexts) → scripts l ≡ Ok texts → AreScripts l texts)
-    → and_then printer (λ p. and_then limits (λ l. and_then admin (λ a. and_then patience
+    → and_then printer (λ p. and_then limits (λ l. and_then admin (λ a. and_then serve
     (λ n. and_then groups (λ g. and_then (scripts l) (λ t. Ok (whole-settings p l a n g t))))))) ≡ Ok s
     → IsSettings s
-settings-by (Err fault) limits admin patience groups scripts s p n t h = absurd (cc)
-settings-by (Ok x) (Err fault) admin patience groups scripts s p n t h = absurd (cc)
-settings-by (Ok x) (Ok l) (Err fault) patience groups scripts s p n t h = absurd (cc)
+settings-by (Err fault) limits admin serve groups scripts s p n t h = absurd (cc)
+settings-by (Ok x) (Err fault) admin serve groups scripts s p n t h = absurd (cc)
+settings-by (Ok x) (Ok l) (Err fault) serve groups scripts s p n t h = absurd (cc)
 settings-by (Ok x) (Ok l) (Ok a) (Err fault) groups scripts s p n t h = absurd (cc)
 settings-by (Ok x) (Ok l) (Ok a) (Ok k) (Err fault) scripts s p n t h = absurd (cc)
 settings-by (Ok x) (Ok l) (Ok a) (Ok k) (Ok g) scripts s p n t h = settings-made x l a k g (scripts l) s (p x refl) (n k refl) (t l) h
@@ -150,12 +167,12 @@ settings-sound members s h =
     (printer_of (get_member (codes "printer") members))
     (limits_of (get_member (codes "limits") members))
     (admin_of (get_member (codes "admin") members))
-    (patience_of (get_member (codes "serve") members))
+    (serve_of (get_member (codes "serve") members))
     (groups_of (get_member (codes "groups") members))
     (λ limits. scripts_of limits (get_member (codes "scripts") members))
     s
     (printer-sound (get_member (codes "printer") members))
-    (patience-sound (get_member (codes "serve") members))
+    (serve-sound (get_member (codes "serve") members))
     (λ limits texts is. all-scripts-sound limits (get_member (codes "scripts") members) texts is)
     h
 

@@ -4,7 +4,7 @@ use Rattle.toml.specs.Data.{Members, get_member}
 use Rattle.toml.specs.Parse.{parse_document}
 use Rattle.octo_settings.specs.Groups.{groups_of}
 use Rattle.octo_settings.specs.Scripts.{scripts_of}
-use Rattle.octo_settings.specs.Sections.{printer_of, limits_of, admin_of, patience_of}
+use Rattle.octo_settings.specs.Sections.{printer_of, limits_of, admin_of, serve_of}
 use Rattle.octo_settings.specs.Values.{and_then}
 use Rattle.octo_settings.specs.declared.fault.SettingsFault.{SettingsFault}
 use Rattle.octo_settings.specs.declared.fault.SettingsFault.TheVariants.{NotToml}
@@ -25,7 +25,7 @@ settings_in members =
     and_then (printer_of (get_member (codes "printer") members)) (λ printer.
     and_then (limits_of (get_member (codes "limits") members)) (λ limits.
     and_then (admin_of (get_member (codes "admin") members)) (λ admin.
-    and_then (patience_of (get_member (codes "serve") members)) (λ patience.
+    and_then (serve_of (get_member (codes "serve") members)) (λ serve.
     and_then (groups_of (get_member (codes "groups") members)) (λ groups.
     and_then (scripts_of limits (get_member (codes "scripts") members)) (λ scripts.
     Ok (record {
@@ -38,7 +38,8 @@ settings_in members =
       connect = printer.connect;
       limits = limits;
       admin = Some admin;
-      patience = patience;
+      patience = serve.patience;
+      origins = serve.origins;
       groups = groups;
       scripts = scripts;
     })))))))
@@ -65,6 +66,7 @@ plain_settings = record {
   limits = record { tool = 300; bed = 120 };
   admin = None;
   patience = 6000;
+  origins = [];
   groups = [];
   scripts = no_scripts;
 }

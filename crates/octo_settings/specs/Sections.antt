@@ -1,5 +1,5 @@
--- The sections of settings: the printer, its limits, the admin, and how long serving is patient.
-use Rattle.std.specs.Prelude.{ℕ, Bool, false, ◌&&◌, nat_le, if◌then◌else◌, List, length, codes, Option, None, Some, Result, Ok, Err}
+-- The sections of settings: the printer, its limits, the admin, and how serving treats connections.
+use Rattle.std.specs.Prelude.{ℕ, Bool, false, ◌&&◌, nat_le, if◌then◌else◌, List, [], length, codes, Option, None, Some, Result, Ok, Err}
 use Rattle.toml.specs.Data.{Data, boolean, Members, get_member}
 use Rattle.hex.specs.Hex.{decode_sized}
 use Rattle.hex.specs.declared.error.FromHexError.{FromHexError}
@@ -10,14 +10,15 @@ use Rattle.octo_settings.specs.Values.{and_then, each, in_range, section, whole,
 use Rattle.octo_settings.specs.declared.fault.SettingsFault.{SettingsFault}
 use Rattle.octo_settings.specs.declared.fault.SettingsFault.TheVariants.{Missing, WrongKind, OutOfRange}
 use Rattle.octo_settings.specs.declared.sections.Printer.{Printer}
+use Rattle.octo_settings.specs.declared.sections.Serve.{Serve}
 
--- a port's name: 1 to 100 bytes
-abbrev pub port_of : List ℕ → List ℕ → Result (List ℕ) SettingsFault
-port_of key text = if nat_le 1 (length text) && nat_le (length text) 100 then Ok text else Err (OutOfRange key)
+-- a port's name, or an origin: 1 to 100 bytes
+abbrev pub short_text : List ℕ → List ℕ → Result (List ℕ) SettingsFault
+short_text key text = if nat_le 1 (length text) && nat_le (length text) 100 then Ok text else Err (OutOfRange key)
 
 -- 1 to 16 ports
 abbrev pub ports_in : List ℕ → List (List ℕ) → Result (List (List ℕ)) SettingsFault
-ports_in key texts = if nat_le 1 (length texts) && nat_le (length texts) 16 then each (port_of key) texts else Err (OutOfRange key)
+ports_in key texts = if nat_le 1 (length texts) && nat_le (length texts) 16 then each (short_text key) texts else Err (OutOfRange key)
 
 -- the ports, which may not be missing
 abbrev pub ports_of : List ℕ → Option Data → Result (List (List ℕ)) SettingsFault
@@ -103,10 +104,22 @@ admin_in members =
 abbrev pub admin_of : Option Data → Result Admin SettingsFault
 admin_of value = and_then (section (codes "admin") value) admin_in
 
--- how many turns serving waits for a message, by a table
-abbrev pub patience_in : Members → Result ℕ SettingsFault
-patience_in members = whole (codes "serve.patience") 1 4000000000 6000 (get_member (codes "patience") members)
+-- at most 8 origins
+abbrev pub origins_in : List ℕ → List (List ℕ) → Result (List (List ℕ)) SettingsFault
+origins_in key texts = if nat_le (length texts) 8 then each (short_text key) texts else Err (OutOfRange key)
 
--- the same by the section `serve`, the default if it is missing
-abbrev pub patience_of : Option Data → Result ℕ SettingsFault
-patience_of value = and_then (section (codes "serve") value) patience_in
+-- the origins whose pages may read replies, none if they are missing
+abbrev pub origins_of : List ℕ → Option Data → Result (List (List ℕ)) SettingsFault
+origins_of key None = Ok []
+origins_of key (Some value) = and_then (text_values key value) (origins_in key)
+
+-- how many turns serving waits for a message, and the origins, by a table
+abbrev pub serve_in : Members → Result Serve SettingsFault
+serve_in members =
+    and_then (whole (codes "serve.patience") 1 4000000000 6000 (get_member (codes "patience") members)) (λ patience.
+    and_then (origins_of (codes "serve.origins") (get_member (codes "origins") members)) (λ origins.
+    Ok (record { patience = patience; origins = origins })))
+
+-- the same by the section `serve`, the defaults if it is missing
+abbrev pub serve_of : Option Data → Result Serve SettingsFault
+serve_of value = and_then (section (codes "serve") value) serve_in

@@ -1,9 +1,9 @@
-//! The sections of settings: the printer, its limits, the admin, and how long serving is patient.
+//! The sections of settings: the printer, its limits, the admin, and how serving treats connections.
 ghost use Rattle.std.specs.Prelude.{◌≡◌, ◌≤◌, length};
 ghost use Rattle.byte_text.specs.declared.name.TheConstants.{MOST_NAME_BYTES};
 ghost use Rattle.hex.specs.Hex.{decode_sized};
 ghost use Rattle.octo_access.specs.Names.{name_of};
-ghost use Rattle.octo_settings.specs.Sections.{port_of, ports_in, ports_of, material_of, boot_of, flag_of, printer_in, printer_of, limits_in, limits_of, admin_name_of, digest_in, digest_of, admin_in, admin_of, patience_in, patience_of};
+ghost use Rattle.octo_settings.specs.Sections.{short_text, ports_in, ports_of, material_of, boot_of, flag_of, printer_in, printer_of, limits_in, limits_of, admin_name_of, digest_in, digest_of, admin_in, admin_of, origins_in, origins_of, serve_in, serve_of};
 ghost use Rattle.octo_settings.specs.Seen.{members_or, data_of_value};
 ghost use Rattle.octo_settings.specs.Values.{Reads, each, in_range};
 
@@ -31,31 +31,39 @@ pub(crate) struct Printer {
     pub(crate) connect: bool,
 }
 
-fn read_port(key: &str, text: &str) -> Result<Name, SettingsFault>
+// What the section `serve` says.
+#[derive(Drop)]
+pub(crate) struct Serve {
+    pub(crate) patience: u32,
+    pub(crate) origins: NameList,
+}
+
+// A port's name, or an origin.
+fn read_short_text(key: &str, text: &str) -> Result<Name, SettingsFault>
     requires { length key.now ≤ MOST_NAME_BYTES }
-    ensures { result ≡ port_of key.now text.now }
+    ensures { result ≡ short_text key.now text.now }
 {
     if text.is_empty() {
         return Err(out_of_range(key));
     }
     match Name::from_text(text) {
-        Some(port) => Ok(port),
+        Some(name) => Ok(name),
         None => Err(out_of_range(key)),
     }
 }
 
-fn read_port_list(alloc: Global, key: &str, texts: &WordList) -> Result<NameList, SettingsFault>
+fn read_short_texts(alloc: Global, key: &str, texts: &WordList) -> Result<NameList, SettingsFault>
     requires { length key.now ≤ MOST_NAME_BYTES }
-    ensures { Reads result (each (port_of key.now) texts.now) }
+    ensures { Reads result (each (short_text key.now) texts.now) }
 {
-    let mut ports = NameList::new(alloc);
+    let mut names = NameList::new(alloc);
     for i in 0..texts.count() {
-        let port = read_port(key, texts.get(i))?;
-        if ports.push(port).is_err() {
+        let name = read_short_text(key, texts.get(i))?;
+        if names.push(name).is_err() {
             return Err(SettingsFault::NoMemory);
         }
     }
-    Ok(ports)
+    Ok(names)
 }
 
 fn read_ports_in(alloc: Global, key: &str, texts: &WordList) -> Result<NameList, SettingsFault>
@@ -66,7 +74,7 @@ fn read_ports_in(alloc: Global, key: &str, texts: &WordList) -> Result<NameList,
     if count < 1 || count > 16 {
         return Err(out_of_range(key));
     }
-    read_port_list(alloc, key, texts)
+    read_short_texts(alloc, key, texts)
 }
 
 fn read_ports(alloc: Global, key: &str, value: Option<&Value>) -> Result<NameList, SettingsFault>
@@ -239,8 +247,29 @@ pub(crate) fn read_admin(value: Option<&Value>) -> Result<Admin, SettingsFault>
     }
 }
 
-fn read_patience_in(table: Option<&Table>) -> Result<u32, SettingsFault>
-    ensures { result ≡ patience_in (members_or table.entry) }
+fn read_origins_in(alloc: Global, key: &str, texts: &WordList) -> Result<NameList, SettingsFault>
+    requires { length key.now ≤ MOST_NAME_BYTES }
+    ensures { Reads result (origins_in key.now texts.now) }
+{
+    if texts.count() > 8 {
+        return Err(out_of_range(key));
+    }
+    read_short_texts(alloc, key, texts)
+}
+
+fn read_origins(alloc: Global, key: &str, value: Option<&Value>) -> Result<NameList, SettingsFault>
+    requires { length key.now ≤ MOST_NAME_BYTES }
+    ensures { Reads result (origins_of key.now (data_of_value value.entry)) }
+{
+    let Some(value) = value else {
+        return Ok(NameList::new(alloc));
+    };
+    let texts = read_texts(alloc, key, value)?;
+    read_origins_in(alloc, key, &texts)
+}
+
+fn read_serve_in(alloc: Global, table: Option<&Table>) -> Result<Serve, SettingsFault>
+    ensures { Reads result (serve_in (members_or table.entry)) }
 {
     let patience = read_whole(
         "serve.patience",
@@ -249,14 +278,18 @@ fn read_patience_in(table: Option<&Table>) -> Result<u32, SettingsFault>
         6_000,
         at(table, "patience"),
     )?;
-    Ok(patience as u32)
+    let origins = read_origins(alloc, "serve.origins", at(table, "origins"))?;
+    Ok(Serve {
+        patience: patience as u32,
+        origins,
+    })
 }
 
-pub(crate) fn read_patience(value: Option<&Value>) -> Result<u32, SettingsFault>
-    ensures { result ≡ patience_of (data_of_value value.entry) }
+pub(crate) fn read_serve(alloc: Global, value: Option<&Value>) -> Result<Serve, SettingsFault>
+    ensures { Reads result (serve_of (data_of_value value.entry)) }
 {
     match read_section("serve", value) {
-        Ok(table) => read_patience_in(table),
+        Ok(table) => read_serve_in(alloc, table),
         Err(fault) => Err(fault),
     }
 }

@@ -9,7 +9,7 @@ ghost use Rattle.octo_settings.specs.declared.fault.SettingsFault.TheVariants.{N
 use crate::fault::SettingsFault;
 use crate::groups::read_groups;
 use crate::scripts::read_scripts;
-use crate::sections::{read_admin, read_limits, read_patience, read_printer};
+use crate::sections::{read_admin, read_limits, read_printer, read_serve};
 use crate::values::at;
 use byte_text::Name;
 use job_desk::Scripts;
@@ -47,6 +47,8 @@ pub struct Settings {
     pub admin: Option<Admin>,
     /// How many turns serving waits for a message.
     pub patience: u32,
+    /// The origins whose pages may read the replies of the REST API: at most 8 texts of 1 to 100 bytes.
+    pub origins: NameList,
     /// The groups beside those that are built in.
     pub groups: Groups,
     /// The commands that are sent around connections and prints.
@@ -80,6 +82,7 @@ fn defaults(alloc: Global) -> Settings
         },
         admin: None,
         patience: 6_000,
+        origins: NameList::new(alloc),
         groups: Groups::new(alloc),
         scripts: Scripts::new(alloc),
     }
@@ -107,7 +110,7 @@ fn read_table(alloc: Global, table: &Table) -> Result<Settings, SettingsFault>
     let printer = read_printer(alloc, at(table, "printer"))?;
     let limits = read_limits(at(table, "limits"))?;
     let admin = read_admin(at(table, "admin"))?;
-    let patience = read_patience(at(table, "serve"))?;
+    let serve = read_serve(alloc, at(table, "serve"))?;
     let groups = read_groups(alloc, at(table, "groups"))?;
     let scripts = read_scripts(alloc, &limits, at(table, "scripts"))?;
     Ok(Settings {
@@ -120,7 +123,8 @@ fn read_table(alloc: Global, table: &Table) -> Result<Settings, SettingsFault>
         connect: printer.connect,
         limits,
         admin: Some(admin),
-        patience,
+        patience: serve.patience,
+        origins: serve.origins,
         groups,
         scripts,
     })

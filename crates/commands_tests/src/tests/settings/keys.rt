@@ -95,9 +95,48 @@ key_sha256 = '3d6dc258f967781f8598c11af4d699e0a7f3f5f52f6b1a0f0931150933a2d5ae'"
 #[test]
 fn long_names(rt: HostRuntime) -> Result<(), Fail> {
     let alloc = rt.alloc();
+    hundred_at_most(&rt, alloc, PRINTER_AND_ADMIN, EIGHT, "']", "serve.origins")?;
     hundred_at_most(&rt, alloc, ADMIN, SIXTEEN, "']", "printer.ports")?;
     hundred_at_most(&rt, alloc, ADMIN, MATERIAL, "'", "printer.material")?;
     hundred_at_most(&rt, alloc, NAMELESS, "name = '", "'", "admin.name")
+}
+
+// Seven origins, and the beginning of one more.
+const EIGHT: &str = "[serve]\norigins = ['1', '2', '3', '4', '5', '6', '7', '";
+
+// Origins that are of the wrong kind, too many or empty.
+const ORIGINS: [(&str, Why, &str); 6] = [
+    ("[serve]\norigins = 'http://a'", Why::Kind, "serve.origins"),
+    (
+        "[serve]\norigins = ['http://a', 1]",
+        Why::Kind,
+        "serve.origins",
+    ),
+    (
+        "[serve]\norigins = ['http://a', '']",
+        Why::Range,
+        "serve.origins",
+    ),
+    (NINE, Why::Range, "serve.origins"),
+    // The first of two faults, in the order of the keys.
+    (
+        "[serve]\norigins = 1\npatience = 0",
+        Why::Range,
+        "serve.patience",
+    ),
+    (
+        "[groups]\nusers = []\n[serve]\norigins = 1",
+        Why::Kind,
+        "serve.origins",
+    ),
+];
+
+// Nine origins.
+const NINE: &str = "[serve]\norigins = ['1', '2', '3', '4', '5', '6', '7', '8', '9']";
+
+#[test]
+fn origins(rt: HostRuntime) -> Result<(), Fail> {
+    faults(&rt, rt.alloc(), "", PRINTER_AND_ADMIN, &ORIGINS)
 }
 
 const PRINTER_AND_ADMIN: &str = "[printer]\nports = ['p']\n[admin]\nname = 'root'\n\

@@ -74,7 +74,30 @@ fn greatest(rt: HostRuntime) -> Result<(), Fail> {
     Ok(())
 }
 
+// These are its origins, in their order.
+fn has_origins(rt: &impl Abort, settings: &Settings, wanted: &[&str]) {
+    assert_eq!(rt; settings.origins.as_slice().len(), wanted.len());
+    for (origin, text) in settings.origins.as_slice().iter().zip(wanted) {
+        assert!(rt; origin.as_str() == *text);
+    }
+}
+
+#[test]
+fn origins(rt: HostRuntime) -> Result<(), Fail> {
+    let alloc = rt.alloc();
+    let none = read(alloc, PRINTER, ADMIN, "[serve]\norigins = []")??;
+    has_origins(&rt, &none, &[]);
+    let two = "[serve]\norigins = ['http://a:8080', 'https://b']\n";
+    has_origins(
+        &rt,
+        &read(alloc, PRINTER, ADMIN, two)??,
+        &["http://a:8080", "https://b"],
+    );
+    Ok(())
+}
+
 fn are_defaults(rt: &impl Abort, settings: &Settings, ports: usize) {
+    has_origins(rt, settings, &[]);
     let wanted = [4, 30_000, 5_000, 300, 120, 6_000];
     assert_values(rt, settings, ports, "any", wanted);
     assert!(rt; settings.boot_ms.is_none() && !settings.connect);

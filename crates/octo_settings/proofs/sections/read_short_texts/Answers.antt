@@ -1,19 +1,19 @@
 use Rattle.std.proofs.Common.{◌≡◌, ◌+◌, [], ◌∷◌, ◌++◌, drop, sym, ◌∙◌, rules, inr}
 use Rattle.std.proofs.lemmas.Result.{err_from_is_err_and}
-use Rattle.octo_settings.specs.Sections.{port_of}
+use Rattle.octo_settings.specs.Sections.{short_text}
 use Rattle.octo_settings.proofs.Each.{each-ok, each-err, drop-got}
-use Rattle.octo_settings.proofs.sections.read_port_list.Goals as goal
+use Rattle.octo_settings.proofs.sections.read_short_texts.Goals as goal
 
-pub returns-in_err-port : goal.returns-in_err-port
-returns-in_err-port c =
+pub returns-in_err-name : goal.returns-in_err-name
+returns-in_err-name c =
     let p = err_from_is_err_and c.from_residual.result c.from_residual.ensures.1 in
     rw (p.1, p.2) (inr (c.loop-i.invariant
-    ∙ each-err (λ n x. port_of c.args.key.now x) c.loop-i.i c.get.result.now (drop (c.loop-i.i + 1) c.args.texts.now) (drop c.loop-i.i c.args.texts.now) c.loop-i.ports c.in_err-port.field-0.0
-    (drop-got c.args.texts.now c.loop-i.i c.get.result.now c.get.ensures) (sym c.read_port.ensures ∙ c.in_err-port.was)))
+    ∙ each-err (λ n x. short_text c.args.key.now x) c.loop-i.i c.get.result.now (drop (c.loop-i.i + 1) c.args.texts.now) (drop c.loop-i.i c.args.texts.now) c.loop-i.names c.in_err-name.field-0.0
+    (drop-got c.args.texts.now c.loop-i.i c.get.result.now c.get.ensures) (sym c.read_short_text.ensures ∙ c.in_err-name.was)))
 
 pub loop-i-preserved : goal.loop-i-preserved
 loop-i-preserved c =
-    let pushed : c.push.new.self ≡ c.loop-i.ports ++ c.in_ok-port.port ∷ [] = search rules in
+    let pushed : c.push.new.self ≡ c.loop-i.names ++ c.in_ok-name.name ∷ [] = search rules in
     rw pushed (c.loop-i.invariant
-    ∙ each-ok (λ n x. port_of c.args.key.now x) c.loop-i.i c.get.result.now (drop (c.loop-i.i + 1) c.args.texts.now) (drop c.loop-i.i c.args.texts.now) c.loop-i.ports c.in_ok-port.port
-    (drop-got c.args.texts.now c.loop-i.i c.get.result.now c.get.ensures) (sym c.read_port.ensures ∙ c.in_ok-port.was))
+    ∙ each-ok (λ n x. short_text c.args.key.now x) c.loop-i.i c.get.result.now (drop (c.loop-i.i + 1) c.args.texts.now) (drop c.loop-i.i c.args.texts.now) c.loop-i.names c.in_ok-name.name
+    (drop-got c.args.texts.now c.loop-i.i c.get.result.now c.get.ensures) (sym c.read_short_text.ensures ∙ c.in_ok-name.was))
