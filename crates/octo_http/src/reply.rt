@@ -168,11 +168,7 @@ pub fn write_reply<C: Conn>(
 
 /// Writes a reply with more fields and without its body, as it is sent to `HEAD`: the length is that of the body. After a
 /// failed call a prefix was written. Source: RFC 9110, section 9.3.2.
-pub fn write_head<C: Conn>(
-    conn: &mut C,
-    reply: &HttpReply,
-    more: &FieldLines,
-) -> Result<(), Failed>
+pub fn write_head<C: Conn>(conn: &mut C, reply: &HttpReply, more: &FieldLines) -> Result<(), Failed>
     ensures ok { OnOk result (Adds (C.written conn.old) (C.written conn.new)
         (reply_head (with_fields more.now.items reply.now))) }
     ensures err { OnErr result (AddsPrefix (C.written conn.old) (C.written conn.new)

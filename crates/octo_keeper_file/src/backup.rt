@@ -77,7 +77,12 @@ fn replace(rt: &HostRuntime, part: &str, path: &str) -> io::Result<()> {
 }
 
 // Copies a database into one file beside it, and gives that its name once it is whole.
-fn write_copy(rt: &HostRuntime, path: &Name, part: &str, part_log: &str) -> Result<(), KeeperFault> {
+fn write_copy(
+    rt: &HostRuntime,
+    path: &Name,
+    part: &str,
+    part_log: &str,
+) -> Result<(), KeeperFault> {
     by_system(copy_both(rt, path.as_str(), part, part_log))?;
     empty_log(rt, part)?;
     by_system(fs::remove_file(rt, part_log))?;
@@ -94,7 +99,10 @@ fn remove_parts(rt: &HostRuntime, part: &str, part_log: &str) {
 // and on the disk; after a kill `PATH.backup.part` may be left, which the next backup removes. A log beside the former copy is a
 // fault: another program uses it as a database, or was killed while it did, and that log would spoil the new copy.
 pub(crate) fn back_up(rt: &HostRuntime, path: &Name) -> Result<(), KeeperFault> {
-    if !matches!(fs::exists(rt, beside(path, ".backup-wal").as_str()), Ok(false)) {
+    if !matches!(
+        fs::exists(rt, beside(path, ".backup-wal").as_str()),
+        Ok(false)
+    ) {
         return Err(KeeperFault::Failed);
     }
     let part = beside(path, ".backup.part");
