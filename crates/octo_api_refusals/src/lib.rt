@@ -11,6 +11,7 @@ mod status;
 mod written;
 
 pub use direct::{direct_bytes, empty_reply, fault_bytes, out_of_memory};
+pub use methods::{MethodsText, methods_text};
 pub use objects::{Members, Primitive, members_of, object_of, object_with, pair, with_member};
 pub use status::{
     BAD_REQUEST, CONFLICT, CREATED, FORBIDDEN, INSUFFICIENT_STORAGE, NOT_FOUND, OK,

@@ -8,8 +8,8 @@ use byte_text::append;
 use octo_api_routes::Methods;
 use octo_http::FieldLines;
 
-// The names of methods: five of them, with a comma and a space between each two, have 28 bytes.
-pub(crate) type MethodsText = ArrayString<32>;
+/// The names of methods: five of them, with a comma and a space between each two, have 28 bytes.
+pub type MethodsText = ArrayString<32>;
 
 // A list of names with one more, if it is allowed.
 fn with_method(names: MethodsText, is_allowed: bool, name: &str) -> MethodsText
@@ -30,8 +30,8 @@ fn with_method(names: MethodsText, is_allowed: bool, name: &str) -> MethodsText
     all
 }
 
-// The names of methods, with a comma and a space between each two.
-pub(crate) fn methods_text(allowed: Methods) -> MethodsText
+/// The names of methods, with a comma and a space between each two.
+pub fn methods_text(allowed: Methods) -> MethodsText
     ensures { result.bytes ≡ methods_text allowed }
 {
     let names = with_method(MethodsText::new(), allowed.get, "GET");
