@@ -1,5 +1,6 @@
 //! Runs over a counter, a keeper, a shelf and a link in memory; and each call of rows, tables and the desk that takes memory, once.
 mod asks;
+mod clocks;
 mod connections;
 mod desk;
 mod makers;

@@ -180,7 +180,8 @@ fn hello_corrupted(rt: HostRuntime) -> Result<(), Fail> {
     comes_to(&rt, rt.alloc(), asked, PrintEnd::Done, 3, &["G28"])
 }
 
-// A lost hello isn't sent again: nobody answers for five limits of 30 seconds.
+// A lost hello isn't sent again: nobody answers for five limits of 30 seconds. Each quiet turn rests for a second, so that 152
+// turns are enough.
 #[test]
 fn hello_lost(rt: HostRuntime) -> Result<(), Fail> {
     let asked = Asked {
@@ -189,6 +190,7 @@ fn hello_lost(rt: HostRuntime) -> Result<(), Fail> {
             ..SOUND
         },
         rest: 1_000,
+        turns: 152,
         ..PLAIN
     };
     let end = PrintEnd::Ended(SessionEnd::NoAnswer { silent: 5 });

@@ -9,7 +9,7 @@ use octo_asks::{AskList, Entry, MemoryCounter};
 use octo_house::House;
 use octo_house_run::run;
 use octo_keeper::{KeeperFault, MemoryKeeper, MemoryShelf};
-use octo_outside::MemoryClock;
+use octo_outside::{Clock, MemoryClock};
 use print_queue::Outcome;
 use printer_link::{FateList, MemoryLink};
 use std::alloc::Global;
@@ -38,7 +38,7 @@ pub(super) struct Ran {
 }
 
 impl Ran {
-    // Runs a new host over these asks, at whose keeper these calls fail, counted from 1.
+    // Runs a new host over these asks, at whose keeper these calls fail, counted from 1, and whose link loses no line.
     pub(super) fn over(
         rt: &(impl Wait + Abort),
         alloc: Global,
@@ -68,21 +68,48 @@ impl Ran {
         rounds: u64,
         connects: bool,
     ) -> Ran {
-        let mut counter = SlowCounter::new(counter_of(rt, alloc, asks), rounds);
+        let counter = SlowCounter::new(counter_of(rt, alloc, asks), rounds);
+        let link = link_at(alloc, port, FateList::new(alloc)).expect(rt, "no memory");
+        let mut clock = MemoryClock::new(100, if connects { 1_000 } else { 10 });
+        Ran::of(rt, alloc, counter, fails, link, &mut clock, connects)
+    }
+
+    // The same by this clock, over a link whose first lines have these fates.
+    pub(super) fn by<T: Clock>(
+        rt: &(impl Wait + Abort),
+        alloc: Global,
+        asks: AskList,
+        fails: &[u64],
+        fates: FateList,
+        clock: &mut T,
+    ) -> Ran {
+        let counter = SlowCounter::new(counter_of(rt, alloc, asks), 0);
+        let link = link_at(alloc, "p", fates).expect(rt, "no memory");
+        Ran::of(rt, alloc, counter, fails, link, clock, false)
+    }
+
+    // Runs a new host over this counter and this link.
+    fn of<T: Clock>(
+        rt: &(impl Wait + Abort),
+        alloc: Global,
+        mut counter: SlowCounter,
+        fails: &[u64],
+        mut link: MemoryLink,
+        clock: &mut T,
+        connects: bool,
+    ) -> Ran {
         let mut keeper = keeper_of(alloc, no_rows(alloc), fails).expect(rt, "no memory");
         let mut shelf = shelf_of(alloc, &[]).expect(rt, "no memory");
         let mut house = house_of(alloc, "any", 30_000, &mut keeper, &mut shelf).expect(
             rt, "no host",
         );
-        let mut link = link_at(alloc, port, FateList::new(alloc)).expect(rt, "no memory");
         assert!(rt; !link.is_up());
-        let mut clock = MemoryClock::new(100, if connects { 1_000 } else { 10 });
         let calls = run(
             rt,
             &mut house,
             &mut counter,
             &mut link,
-            &mut clock,
+            clock,
             &mut keeper,
             &mut shelf,
             connects,
@@ -140,6 +167,14 @@ impl Ran {
         match self.entries().get(place) {
             Some(entry) => Some(entry_of(entry)),
             None => None,
+        }
+    }
+
+    // The moment of the call at a place of the history.
+    pub(super) fn moment(&self, place: usize) -> Option<u64> {
+        match self.entry(place) {
+            Some(SeenEntry::Call(_, moment, _)) => Some(moment),
+            _ => None,
         }
     }
 
