@@ -55,7 +55,7 @@ refused kind plan past x line asked limit new =
     record {
       printed = recorded_same past (HasPrinted kind plan how x.sender.acked)
           (subst A (sym (new_acked x new)) (λ before. printed_of kind plan how [] 0 before [] (part_none plan) (λ is. absurd (cc)) (λ count is. absurd (cc))
-          (λ count is. absurd (cc)) (λ all is. absurd (cc)) (none_printed kind before [] refl)));
+          (λ count is. absurd (cc)) (λ all is. absurd (cc)) (λ why is. absurd (cc)) (none_printed kind before [] refl)));
       ended = λ why is. absurd (cc);
       unsent = λ none. refl;
     }

@@ -70,7 +70,7 @@ module _ (count : ℕ) (kind : LinkKind) (p : PrintData) (port : List ℕ) (firs
       let printed : (past added : List WorldEvent) → added ≡ [] → P past added =
       λ past added none. (let A : ℕ → Type 0 = λ n. HasPrinted kind whole (end.TurnsUsed turns) n past added in
       subst A (sym dial.none_acked) (printed_of kind whole (end.TurnsUsed turns) [] 0 past added (part_none whole) (λ is. absurd (cc)) (λ count is. absurd (cc))
-      (λ count is. absurd (cc)) (λ all is. absurd (cc)) (none_printed kind past added (ap opens none))))
+      (λ count is. absurd (cc)) (λ all is. absurd (cc)) (λ why is. absurd (cc)) (none_printed kind past added (ap opens none))))
       in
       record {
         printed = subst F dial.nothing (recorded_so now last (λ past added. added ≡ []) P (subst B (dials_down x dial.dials) hung) printed);
@@ -86,7 +86,7 @@ module _ (count : ℕ) (kind : LinkKind) (p : PrintData) (port : List ℕ) (firs
             (λ past added. HasPrinted kind whole (end.TurnsUsed turns) x.sender.acked past added)
             l.history (subst B l.up hung)
             (λ past added more made hangs. printed_of kind whole (end.TurnsUsed turns) l.issued x.sender.acked past (added ++ more) (underway-part p x.desk l.issued l.on.course) (λ is. absurd (cc)) (λ count is. absurd (cc))
-            (λ count is. absurd (cc)) (λ all is. absurd (cc))
+            (λ count is. absurd (cc)) (λ all is. absurd (cc)) (λ why is. absurd (cc))
             (hung_printed kind l.issued x past added more made hangs));
         ended = λ why is. absurd (cc);
         unsent = λ none. absurd none;

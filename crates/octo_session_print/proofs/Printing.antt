@@ -15,6 +15,7 @@ use Rattle.octo_session_print.specs.declared.end.PrintEnd.TheVariants as end
 use Rattle.std.specs.Prelude.{◌*◌}
 use Rattle.send_window.specs.Data.{most_lines}
 use Rattle.send_window.specs.Hearing.{later}
+use Rattle.send_window.specs.declared.session_end.SessionEnd.{SessionEnd}
 use Rattle.send_window.specs.declared.session_end.SessionEnd.TheVariants.{NoAnswer, AskedBack, AskedAhead, Counts, Restarted, LostOk, NumbersUsed}
 use Rattle.octo_session_print.specs.Waiting.{HasWaited}
 use Rattle.std.proofs.lemmas.List.{take_all}
@@ -24,9 +25,10 @@ pub printed_of : (kind : LinkKind) (plan : List (List ℕ)) (how : PrintEnd) (is
     WeavesPart issued plan → (how ≡ end.Done → Weave issued plan × (acked ≡ length issued)) →
     ((count : ℕ) → how ≡ end.Ended (NoAnswer count) → (count ≡ 5) × ((issued ≡ []) ⊎ (acked < length issued))) →
     ((count : ℕ) → how ≡ end.Ended (LostOk count) → (count ≡ 20) × (acked < length issued)) →
-    ((all : ℕ) → how ≡ end.Ended (NumbersUsed all) → (all ≡ most_lines) × (acked ≡ most_lines)) → HasIssued kind issued acked past added →
+    ((all : ℕ) → how ≡ end.Ended (NumbersUsed all) → (all ≡ most_lines) × (acked ≡ most_lines)) →
+    ((why : SessionEnd) → how ≡ end.Ended why → opens added ≡ 1) → HasIssued kind issued acked past added →
     HasPrinted kind plan how acked past added
-printed_of kind plan how issued acked past added part all unanswered missing all_used h = record {
+printed_of kind plan how issued acked past added part all unanswered missing all_used opened h = record {
   issued = issued;
   of_plan = part;
   history = h;
@@ -39,6 +41,7 @@ printed_of kind plan how issued acked past added part all unanswered missing all
   unanswered = unanswered;
   missing = missing;
   all_used = all_used;
+  opened = opened;
 }
 
 none_of : {X : Type 0} (xs : List X) → length xs ≡ 0 → xs ≡ []

@@ -108,7 +108,8 @@ module _ (moment : ℕ) (kind : LinkKind) (old_past new_past : Option (List Worl
       λ past added t. (let none = none_made moment kind old mid h.turn.got h.turn.found texts past added other d.dials t in
       let A : ℕ → Type 0 = λ n. HasPrinted kind whole how n past added in
       subst A (sym (ap (λ (s : SenderData). s.acked) none.1 ∙ d.none_acked))
-      (printed_of kind whole how [] 0 past added (part_none whole) (λ is. absurd (undone is)) (λ count is. absurd (unended (NoAnswer count) is)) (λ count is. absurd (unended (LostOk count) is)) (λ all is. absurd (unended (NumbersUsed all) is)) (none_printed kind past added none.0)))
+      (printed_of kind whole how [] 0 past added (part_none whole) (λ is. absurd (undone is)) (λ count is. absurd (unended (NoAnswer count) is)) (λ count is. absurd (unended (LostOk count) is)) (λ all is. absurd (unended (NumbersUsed all) is))
+      (λ why is. absurd (unended why is)) (none_printed kind past added none.0)))
       in
       record {
         printed = subst F d.nothing (recorded_so old_past new_past
@@ -223,7 +224,7 @@ module _ (moment : ℕ) (kind : LinkKind) (old_past new_past : Option (List Worl
             (λ done. talk_whole l (closed done))
             (λ count is. (let fits = h.fits (NoAnswer count) (ends (NoAnswer count) is) in (fits.0, unanswered_of kind now mid past added made fits.1)))
             (λ count is. (let fits = h.fits (LostOk count) (ends (LostOk count) is) in (fits.0, missing_of kind now mid past added made fits.1)))
-            (λ all is. h.fits (NumbersUsed all) (ends (NumbersUsed all) is)) (made_printed kind now mid past added made));
+            (λ all is. h.fits (NumbersUsed all) (ends (NumbersUsed all) is)) (λ why is. made.once) (made_printed kind now mid past added made));
         ended = λ why is. record {
           its_end = talk_ended why (sym its_fact ∙ ends why is);
           fits = h.fits why (ends why is);

@@ -35,6 +35,8 @@ pub record HasPrinted (kind : LinkKind) (plan : List (List ℕ)) (how : PrintEnd
   pub missing : (count : ℕ) → how ≡ end.Ended (LostOk count) → (count ≡ most_told) × (acked < length issued)
   -- one whose session used all its numbers names `most_lines`, and that many lines are acknowledged
   pub all_used : (all : ℕ) → how ≡ end.Ended (NumbersUsed all) → (all ≡ most_lines) × (acked ≡ most_lines)
+  -- a session that ended is the one that the print opened
+  pub opened : (why : SessionEnd) → how ≡ end.Ended why → opens added ≡ 1
 
 -- a session ended so: its sender has, with the numbers that it names, and the history shows the cause
 pub record HasEnded (kind : LinkKind) (now : Option (List WorldEvent)) (s : SenderData) (why : SessionEnd) : Type 0 where
