@@ -1,5 +1,5 @@
 -- Requests that read a file first: what was read leads to the answer, or why nothing was.
-use Rattle.std.proofs.Common.{◌≡◌, ◌⊎◌, inl, inr, ℕ, Bool, true, false, not, cond, List, length, Option, None, Some, Result, Ok, Err, refl, sym, ap, ◌∙◌, subst}
+use Rattle.std.proofs.Common.{◌≡◌, ◌⊎◌, inl, inr, ℕ, Bool, true, false, not, cond, List, length, Option, None, Some, Result, Ok, Err, refl, sym, ap, ◌∙◌, subst, [], map}
 use Rattle.std.proofs.lemmas.Bool.{false≢true}
 use Rattle.gcode_lines.specs.Commands.{job_of}
 use Rattle.gcode_lines.specs.Job.{JobData}
@@ -17,6 +17,9 @@ use Rattle.octo_house_rules.specs.Verdict.{Verdict, Deed, May, IsDone, gives, ma
 use Rattle.octo_house_tables.specs.Reading.{IsReadAs, found_bytes, found_size, job_in, job_or}
 use Rattle.octo_house.specs.Answered.{asks_files}
 use Rattle.byte_text.proofs.BoolLaws.{same_if}
+use Rattle.octo_house_rules.specs.Reads.{file_shown, list_files_verdict}
+use Rattle.octo_keeper.specs.Files.{sizes_of}
+use Rattle.octo_house_tables.proofs.Contents.{some_sizes}
 
 -- a refusal, or an answer that changes nothing
 pub given : (a x : Answer) (k : Known) → x ≡ a → IsDone (gives a) x k k
@@ -155,3 +158,18 @@ no-start Cancelling other = refl
 no-start Finishing other = refl
 no-start Closing other = refl
 no-start Fault other = refl
+
+-- files were listed: some files have these names and sizes
+pub list-read : (listed : List (List ℕ × ℕ)) (x : Answer) (k : Known) → x ≡ answer.Files (map (λ file. file_shown file.0 file.1) listed)
+    → (files : List ShelfFile) × IsDone (list_files_verdict files) x k k
+list-read listed x k is =
+    let some = some_sizes listed in
+    let all : Verdict = gives (answer.Files (map (λ file. file_shown file.0 file.1) (sizes_of some.0))) in
+    (some.0, read-then all x k k (given _ x k (is ∙ ap (λ (l : List (List ℕ × ℕ)). answer.Files (map (λ file. file_shown file.0 file.1) l)) (sym some.1))))
+
+-- a verdict that may ask the shelf is done by some files; another one whatever they are
+pub some-by : (reads : Bool) (v : List ShelfFile → Verdict) (x : Answer) (old new : Known)
+    → (reads ≡ true → (files : List ShelfFile) × IsDone (v files) x old new) → (reads ≡ false → IsDone (v []) x old new)
+    → (files : List ShelfFile) × IsDone (v files) x old new
+some-by true v x old new read unread = read refl
+some-by false v x old new read unread = ([], unread refl)

@@ -23,6 +23,10 @@ asks_files _ = false
 abbrev pub AnswersOn : Option (List ShelfFile) → (List ShelfFile → Verdict) → Answer → House → House → Type 0
 AnswersOn held v x old new = (files : List ShelfFile) → (held ≡ Some files) ⊎ (asks_files (v files) ≡ false) → Answers (v files) x old new
 
+-- the same by some files, whatever the shelf records
+abbrev pub AnswersOnSome : (List ShelfFile → Verdict) → Answer → House → House → Type 0
+AnswersOnSome v x old new = (files : List ShelfFile) × Answers (v files) x old new
+
 -- the shelf holds the verdict's files then
 abbrev pub Shelves : Option (List ShelfFile) → Option (List ShelfFile) → (List ShelfFile → Verdict) → Answer → Type 0
 Shelves was now v x = (files : List ShelfFile) → was ≡ Some files → now ≡ Some (files_after (v files) x files)

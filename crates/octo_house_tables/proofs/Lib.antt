@@ -1,5 +1,6 @@
 pub mod Changed
 pub mod Commands
+pub mod Contents
 pub mod QueueEntries
 pub mod Faults
 pub mod Found

@@ -51,6 +51,10 @@ job_at name files = job_in (bytes_at name files)
 abbrev pub IsReadAs : {A : Type 0} → Result A Answer → Result A Answer → Type 0
 IsReadAs wanted got = (got ≡ wanted) ⊎ ((got ≡ Err answer.ShelfFault) ⊎ (got ≡ Err answer.NoMemory))
 
+-- that is so of some files: whatever the shelf records, what it returned fits these
+abbrev pub IsReadOfSome : {A : Type 0} → (List ShelfFile → Result A Answer) → Result A Answer → Type 0
+IsReadOfSome wanted got = (files : List ShelfFile) × IsReadAs (wanted files) got
+
 -- whether the keeper failed
 abbrev pub is_keepers_fault : {A : Type 0} → Result A Answer → Bool
 is_keepers_fault (Ok a) = false

@@ -4,7 +4,7 @@ ghost use Rattle.gcode_lines.specs.declared.fault.FileFault.{FileFault};
 ghost use Rattle.octo_asks.specs.declared.answer.Answer.TheVariants as answer;
 ghost use Rattle.octo_keeper.specs.declared.shelf.ShelfFile.{ShelfFile};
 ghost use Rattle.octo_outside.specs.Recorded.{Counts};
-ghost use Rattle.octo_house_tables.specs.Reading.{IsReadAs, bytes_at, size_at, job_at, answer_of_file_fault, is_keepers_fault, is_shelfs_fault};
+ghost use Rattle.octo_house_tables.specs.Reading.{IsReadAs, IsReadOfSome, bytes_at, size_at, job_at, answer_of_file_fault, is_keepers_fault, is_shelfs_fault};
 
 use crate::refusals::answer_of_shelf_fault;
 use byte_text::Name;
@@ -28,6 +28,7 @@ pub fn bad_file(fault: FileFault) -> Answer
 pub fn read_bytes<S: Shelf>(alloc: Global, shelf: &mut S, name: &Name) -> Result<Blob, Answer>
     ensures read { (files : List ShelfFile) → S.files shelf.old ≡ Some files
         → IsReadAs (bytes_at name.now files) result }
+    ensures some { IsReadOfSome (bytes_at name.now) result }
     ensures missed { IfErr result (λ x. (x ≡ answer.NoFile)
         ⊎ (x ≡ answer.ShelfFault) ⊎ (x ≡ answer.NoMemory)) }
     ensures stays { S.files shelf.new ≡ S.files shelf.old }
@@ -46,6 +47,7 @@ pub fn read_bytes<S: Shelf>(alloc: Global, shelf: &mut S, name: &Name) -> Result
 pub fn read_size<S: Shelf>(shelf: &mut S, name: &Name) -> Result<u64, Answer>
     ensures read { (files : List ShelfFile) → S.files shelf.old ≡ Some files
         → IsReadAs (size_at name.now files) result }
+    ensures some { IsReadOfSome (size_at name.now) result }
     ensures missed { IfErr result (λ x. (x ≡ answer.NoFile)
         ⊎ (x ≡ answer.ShelfFault) ⊎ (x ≡ answer.NoMemory)) }
     ensures stays { S.files shelf.new ≡ S.files shelf.old }
@@ -64,6 +66,7 @@ pub fn read_size<S: Shelf>(shelf: &mut S, name: &Name) -> Result<u64, Answer>
 pub fn read_job<S: Shelf>(alloc: Global, shelf: &mut S, name: &Name) -> Result<Job, Answer>
     ensures read { (files : List ShelfFile) → S.files shelf.old ≡ Some files
         → IsReadAs (job_at name.now files) result }
+    ensures some { IsReadOfSome (job_at name.now) result }
     ensures missed { IfErr result (λ x. (x ≡ answer.NoFile)
         ⊎ (x ≡ answer.ShelfFault) ⊎ (x ≡ answer.NoMemory)
         ⊎ ((bad : FileFault) × (x ≡ answer.BadFile bad))) }

@@ -14,7 +14,7 @@ ghost use Rattle.octo_house_rules.specs.Prints.{connect_verdict};
 ghost use Rattle.octo_house_rules.specs.Reads.{backup_verdict};
 ghost use Rattle.octo_house_rules.specs.Rows.{put_entry_verdict};
 ghost use Rattle.octo_house_rules.specs.Verdict.{gives};
-ghost use Rattle.octo_house.specs.Answered.{Answers, AnswersOn, Shelves, IsUntouched, AskDone, KeeperDone};
+ghost use Rattle.octo_house.specs.Answered.{Answers, AnswersOn, AnswersOnSome, Shelves, IsUntouched, AskDone, KeeperDone};
 ghost use Rattle.octo_house.specs.Asking.{IsPermitted, IsTurnedAway};
 ghost use Rattle.octo_house.specs.Groups.{is_edit, is_row, is_reading};
 ghost use Rattle.octo_house.specs.State.{IsDeskAlone, known_of};
@@ -47,6 +47,8 @@ impl House {
 
         // The answer, and what it leaves of the host and of the files.
         ensures done { AnswersOn (S.files shelf.old)
+            (λ files. verdict ask files (known_of self.old)) result self.old self.new }
+        ensures some { AnswersOnSome
             (λ files. verdict ask files (known_of self.old)) result self.old self.new }
         ensures files { Shelves (S.files shelf.old) (S.files shelf.new)
             (λ files. verdict ask files (known_of self.old)) result }
@@ -134,6 +136,9 @@ impl House {
         ensures done { AnswersOn (S.files shelf.old)
             (λ files. request_verdict request.now user.now files (known_of self.old))
             result self.old self.new }
+        ensures some { is_reading request.now ≡ true → AnswersOnSome
+            (λ files. request_verdict request.now user.now files (known_of self.old))
+            result self.old self.new }
         ensures granted { is_reading request.now ≡ true → is_denied result ≡ false }
         ensures files { Shelves (S.files shelf.old) (S.files shelf.new)
             (λ files. request_verdict request.now user.now files (known_of self.old)) result }
@@ -183,6 +188,9 @@ impl House {
     ) -> Answer
         requires { is_edit request.now ≡ true }
         ensures done { AnswersOn (S.files shelf.old)
+            (λ files. request_verdict request.now user.now files (known_of self.old))
+            result self.old self.new }
+        ensures some { is_reading request.now ≡ true → AnswersOnSome
             (λ files. request_verdict request.now user.now files (known_of self.old))
             result self.old self.new }
         ensures granted { is_reading request.now ≡ true → is_denied result ≡ false }

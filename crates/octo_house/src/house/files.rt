@@ -4,7 +4,7 @@ ghost use Rattle.job_desk.specs.Table.{drop_file_step};
 ghost use Rattle.octo_house_rules.specs.Reads.{list_files_verdict, get_file_verdict, download_verdict};
 ghost use Rattle.octo_house_rules.specs.Access.{is_denied};
 ghost use Rattle.octo_house_rules.specs.Uploads.{delete_verdict};
-ghost use Rattle.octo_house.specs.Answered.{Answers, AnswersOn, Shelves, ShelfDone};
+ghost use Rattle.octo_house.specs.Answered.{Answers, AnswersOn, AnswersOnSome, Shelves, ShelfDone};
 ghost use Rattle.octo_outside.specs.Recorded.{Counts};
 ghost use Rattle.octo_house_rules.specs.Faults.{is_keepers, is_shelfs};
 ghost use Rattle.octo_house.specs.State.{AreRowsLeft, IsListed, known_of};
@@ -22,6 +22,7 @@ impl House {
     // All files.
     pub(super) fn list_files<S: Shelf>(&self, shelf: &mut S) -> Answer
         ensures done { AnswersOn (S.files shelf.old) list_files_verdict result self.now self.now }
+        ensures some { AnswersOnSome list_files_verdict result self.now self.now }
         ensures granted { is_denied result ≡ false }
         ensures rest { ShelfDone S.files S.faults shelf.old shelf.new result }
     {
@@ -38,6 +39,9 @@ impl House {
     // One file.
     pub(super) fn file<S: Shelf>(&self, shelf: &mut S, name: &Name) -> Answer
         ensures done { AnswersOn (S.files shelf.old)
+            (λ files. get_file_verdict name.now files (known_of self.now))
+            result self.now self.now }
+        ensures some { AnswersOnSome
             (λ files. get_file_verdict name.now files (known_of self.now))
             result self.now self.now }
         ensures granted { is_denied result ≡ false }
@@ -60,6 +64,9 @@ impl House {
     // The bytes of a file.
     pub(super) fn download<S: Shelf>(&self, shelf: &mut S, name: &Name) -> Answer
         ensures done { AnswersOn (S.files shelf.old)
+            (λ files. download_verdict name.now files (known_of self.now))
+            result self.now self.now }
+        ensures some { AnswersOnSome
             (λ files. download_verdict name.now files (known_of self.now))
             result self.now self.now }
         ensures granted { is_denied result ≡ false }

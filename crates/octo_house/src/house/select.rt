@@ -6,7 +6,7 @@ ghost use Rattle.octo_house_rules.specs.Access.{is_denied};
 ghost use Rattle.job_desk.specs.Data.{named_file};
 ghost use Rattle.octo_house_rules.specs.States.{may_start};
 ghost use Rattle.octo_house_rules.specs.Uploads.{select_verdict, next_verdict, take_verdict, print_verdict};
-ghost use Rattle.octo_house.specs.Answered.{Answers, AnswersOn, KeeperDone, PrintDone, ShelfDone};
+ghost use Rattle.octo_house.specs.Answered.{Answers, AnswersOn, AnswersOnSome, KeeperDone, PrintDone, ShelfDone};
 ghost use Rattle.octo_house.specs.State.{IsDeskAlone, known_of};
 ghost use Rattle.octo_house.specs.Taken.{taken_answer};
 
@@ -32,6 +32,9 @@ impl House {
     // Selects a file.
     pub(super) fn select_named<S: Shelf>(&mut self, shelf: &mut S, name: &Name) -> Answer
         ensures done { AnswersOn (S.files shelf.old)
+            (λ files. select_verdict [] name.now false files (known_of self.old)) result
+            self.old self.new }
+        ensures some { AnswersOnSome
             (λ files. select_verdict [] name.now false files (known_of self.old)) result
             self.old self.new }
         ensures granted { is_denied result ≡ false }
@@ -63,6 +66,9 @@ impl House {
         name: &Name,
     ) -> Answer
         ensures done { AnswersOn (S.files shelf.old)
+            (λ files. select_verdict user.now name.now true files (known_of self.old)) result
+            self.old self.new }
+        ensures some { AnswersOnSome
             (λ files. select_verdict user.now name.now true files (known_of self.old)) result
             self.old self.new }
         ensures granted { is_denied result ≡ false }
@@ -123,6 +129,8 @@ impl House {
     ) -> Answer
         ensures done { AnswersOn (S.files shelf.old)
             (λ files. next_verdict files (known_of self.old)) result self.old self.new }
+        ensures some { AnswersOnSome
+            (λ files. next_verdict files (known_of self.old)) result self.old self.new }
         ensures granted { is_denied result ≡ false }
         ensures rest { PrintDone K.tables K.faults S.files S.faults
             keeper.old keeper.new shelf.old shelf.new result self.old self.new }
@@ -146,6 +154,8 @@ impl House {
     ) -> Answer
         requires { self.old.desk.session.desk.state ≡ state.Operational }
         ensures done { AnswersOn (S.files shelf.old)
+            (λ files. take_verdict files (known_of self.old) entry) result self.old self.new }
+        ensures some { AnswersOnSome
             (λ files. take_verdict files (known_of self.old) entry) result self.old self.new }
         ensures granted { is_denied result ≡ false }
         ensures rest { PrintDone K.tables K.faults S.files S.faults

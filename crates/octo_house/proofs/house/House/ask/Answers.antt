@@ -5,7 +5,7 @@ use Rattle.octo_house_rules.specs.Access.{is_denied}
 use Rattle.octo_house_rules.specs.Faults.{is_keepers, is_shelfs}
 use Rattle.octo_house_tables.specs.Data.{TablesData}
 use Rattle.octo_house_tables.specs.Kept.{IsKept}
-use Rattle.octo_house_rules.specs.Answers.{verdict}
+use Rattle.octo_house_rules.specs.Answers.{verdict, request_verdict}
 use Rattle.octo_house_rules.specs.Verdict.{Verdict, IsDone, files_after}
 use Rattle.octo_keeper.specs.declared.shelf.ShelfFile.{ShelfFile}
 use Rattle.octo_house.specs.Answered.{asks_files}
@@ -13,6 +13,9 @@ use Rattle.octo_house.specs.State.{known_of}
 use Rattle.octo_house.proofs.Denying.{gives-denial, gives-done, gives-files, neither-denies, no-denial, answer-granted}
 use Rattle.octo_house.proofs.Freed.{uncounted, free-granted, free-no-denial, free-done, free-files}
 use Rattle.octo_house.proofs.Permitted.{lacks-none}
+use Rattle.octo_house.specs.Groups.{is_reading}
+use Rattle.octo_house.proofs.Fileless.{request-unasked}
+use Rattle.octo_house.proofs.ReadDone.{some-by}
 use Rattle.octo_house.proofs.house.House.ask.Goals as goal
 
 pub returns-then-is_free-clause-denied : goal.returns-then-is_free-clause-denied
@@ -102,3 +105,27 @@ returns-in-Ok-clause-files g c = λ files at.
     let may = c.in-Ok.ensures in
     subst (λ (v : Verdict). g.S.Shelf.files c.answer.new.shelf ≡ Some (files_after v c.answer.result files))
     (sym (lacks-none c.args.ask.key c.args.ask.request files k (needed c.args.ask.request) c.in-Ok.user may.some may.known may.all)) (c.answer.ensures.files files at)
+
+pub returns-then-is_free-clause-some : goal.returns-then-is_free-clause-some
+returns-then-is_free-clause-some g c =
+    let free = sym c.is_free.ensures ∙ c.if-is_free.true in
+    ([], free-done c.args.ask (known_of c.args.self.now) free [] c.free.result (known_of c.free.new.self) c.free.ensures.done)
+
+pub returns-clause-some : goal.returns-clause-some
+returns-clause-some g c =
+    let k = known_of c.args.self.now in
+    ([], gives-done c.in-Err.answer (verdict c.args.ask [] k) k (c.in-Err.ensures.gave []))
+
+pub returns-in-Ok-clause-some : goal.returns-in-Ok-clause-some
+returns-in-Ok-clause-some g c =
+    let k = known_of c.args.self.now in
+    let k' = known_of c.answer.new.self in
+    let user = c.in-Ok.user in
+    let asked = c.args.ask.request in
+    let may = c.in-Ok.ensures in
+    let told = some-by (is_reading asked) (λ files. request_verdict asked user files k) c.answer.result k k' c.answer.ensures.some
+    (λ unread. c.answer.ensures.done [] (inr (request-unasked asked user [] k unread))) in (
+      told.0,
+      subst (λ (v : Verdict). IsDone v c.answer.result k k')
+          (sym (lacks-none c.args.ask.key asked told.0 k (needed asked) user may.some may.known may.all)) told.1,
+    )

@@ -6,7 +6,7 @@ use Rattle.octo_house_rules.specs.Known.{is_held}
 use Rattle.octo_house_rules.specs.Reads.{file_shown}
 use Rattle.octo_house_rules.specs.Verdict.{gives}
 use Rattle.octo_house.specs.State.{known_of}
-use Rattle.octo_house.proofs.ReadDone.{given, passed-on, read-on, size-read, size-missed}
+use Rattle.octo_house.proofs.ReadDone.{given, passed-on, read-on, size-read, size-missed, passed}
 use Rattle.octo_house.proofs.house.House.file.Goals as goal
 
 pub returns-in-Ok-clause-done : goal.returns-in-Ok-clause-done
@@ -24,3 +24,25 @@ returns-in-Err-clause-done g c = λ files.
     passed-on (not (is_held c.args.name.now k)) answer.NoFile _ _ k k (ap not held)
     (read-on _ _ k k (λ at. size-missed (find (is_file c.args.name.now) files) (λ (size : ℕ). gives (answer.File (file_shown c.args.name.now size))) c.in-Err.answer k
     (c.in-Err.ensures.read files at)))
+
+pub returns-in-Ok-clause-some : goal.returns-in-Ok-clause-some
+returns-in-Ok-clause-some g c =
+    let k = known_of c.args.self.now in
+    let files = c.in-Ok.ensures.some.0 in
+    let held : is_held c.args.name.now k ≡ true = cc in (
+      files,
+      passed (not (is_held c.args.name.now k)) answer.NoFile _ _ k k (ap not held)
+          (size-read (find (is_file c.args.name.now) files) (λ (size : ℕ). gives (answer.File (file_shown c.args.name.now size))) c.in-Ok.size _ k k
+          c.in-Ok.ensures.some.1 (given _ _ k (cc))),
+    )
+
+pub returns-in-Err-clause-some : goal.returns-in-Err-clause-some
+returns-in-Err-clause-some g c =
+    let k = known_of c.args.self.now in
+    let files = c.in-Err.ensures.some.0 in
+    let held : is_held c.args.name.now k ≡ true = cc in (
+      files,
+      passed (not (is_held c.args.name.now k)) answer.NoFile _ _ k k (ap not held)
+          (size-missed (find (is_file c.args.name.now) files) (λ (size : ℕ). gives (answer.File (file_shown c.args.name.now size))) c.in-Err.answer k
+          c.in-Err.ensures.some.1),
+    )
