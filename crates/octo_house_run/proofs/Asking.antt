@@ -1,5 +1,6 @@
 -- An answered ask leads a host on.
-use Rattle.std.proofs.Common.{◌≡◌, ℕ, ◌≤◌, false, List, [], ◌∷◌, Option, Some, refl}
+use Rattle.std.proofs.Common.{◌≡◌, ℕ, ◌≤◌, false, List, [], ◌∷◌, Option, Some, refl, ap, subst}
+use Rattle.std.proofs.lemmas.Option.{same_Some}
 use Rattle.octo_outside.specs.Recorded.{Adds}
 use Rattle.octo_keeper.specs.declared.shelf.ShelfFile.{ShelfFile}
 use Rattle.octo_asks.specs.History.{History}
@@ -37,3 +38,20 @@ pub later_walks : (known : Known) (x : SessionData) (past past' : Option History
     → Walks past past' files files' (λ held s. StandsAt s known x held before false) (λ held s. StandsAt s known x held moment false)
 later_walks known x past past' files files' moment same_past same_files before below =
     walks_none past past' files files' _ _ same_past same_files (λ held s at. stands_later s known x held before moment at below)
+
+-- the same over some files, whatever the shelf records
+pub some_walks : (known known' : Known) (x y : SessionData) (past past' : Option History) (worker : ℕ) (ask : Ask) (moment : ℕ) (answer : Answer)
+    → Adds past past' (entry.Call worker ask moment answer ∷ [])
+    → (files : List ShelfFile) × IsDone (verdict ask files known) answer known known'
+    → y.sender ≡ x.sender → y.up ≡ x.up → known'.desk ≡ y.desk
+    → (was : List ShelfFile) × (held : List ShelfFile) × ((before : ℕ) → before ≤ moment
+    → Walks past past' (Some was) (Some held) (λ files s. StandsAt s known x files before false) (λ files s. StandsAt s known' y files moment false))
+some_walks known known' x y past past' worker ask moment answer adds told sender up desk =
+    let was : List ShelfFile = told.0 in
+    let left = λ (files : List ShelfFile). files_after (verdict ask files known) answer files in (
+      was,
+      left was,
+      call_walks known known' x y past past' (Some was) (Some (left was)) worker ask moment answer adds
+          (λ files at. subst (λ (fs : List ShelfFile). IsDone (verdict ask fs known) answer known known') (same_Some was files at) told.1)
+          (λ files at. ap (λ (fs : List ShelfFile). Some (left fs)) (same_Some was files at)) sender up desk,
+    )

@@ -1,5 +1,6 @@
 pub mod Asking
 pub mod Connecting
+pub mod Contents
 pub mod Noting
 pub mod Owning
 pub mod Printing

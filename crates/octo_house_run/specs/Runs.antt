@@ -10,6 +10,7 @@ use Rattle.octo_session.specs.Data.{SessionData}
 use Rattle.octo_house_rules.specs.Legal.{Standing, beginning}
 use Rattle.octo_house_rules.specs.Stands.{StandsAt}
 use Rattle.octo_house_rules.specs.Walks.{Walks}
+use Rattle.octo_house_contents_proof.specs.Contents.{OnSome, WalksOver}
 use Rattle.octo_house_rules.specs.Counted.{calls_made, leaves_made, is_shut}
 use Rattle.octo_house.specs.declared.house.House.{House}
 use Rattle.octo_house.specs.State.{known_of, session_of}
@@ -28,6 +29,10 @@ abbrev pub Leads : (past past' : Option History) → (files files' : Option (Lis
 Leads past past' files files' moment old new =
     (before : ℕ) → before ≤ moment → Walks past past' files files' (stands_with old before) (stands_with new moment)
 
+-- the same over some files of the shelf, whatever it records
+abbrev pub LeadsOnSome : (past past' : Option History) → ℕ → House → House → Type 0
+LeadsOnSome past past' moment old new = (was : List ShelfFile) × (held : List ShelfFile) × Leads past past' (Some was) (Some held) moment old new
+
 -- the session of a host that has just begun
 pub record IsFresh (session : SessionData) : Type 0 where
   pub sound : IsSound session.sender
@@ -44,6 +49,10 @@ RunIsOver house files s = (moment : ℕ) × StandsAt s (known_of house) (session
 -- a whole run: the history grew by a legal one, from the beginning to the end, which leads to this host
 abbrev pub HasRun : (past past' : Option History) → (files files' : Option (List ShelfFile)) → House → House → Type 0
 HasRun past past' files files' old new = Walks past past' files files' (begins old) (RunIsOver new)
+
+-- the same over contents of the shelf, whatever it records: it held some files before each entry, over which that entry is legal
+abbrev pub HasRunOver : (past past' : Option History) → House → House → Type 0
+HasRunOver past past' old new = WalksOver past past' (OnSome (begins old)) (OnSome (RunIsOver new))
 
 -- how a run came to its end: a shutdown was accepted, or four workers had left and no print was active; it returns the number of calls
 pub record IsOver (calls : ℕ) (active : Bool) (added : History) : Type 0 where

@@ -11,7 +11,7 @@ ghost use Rattle.octo_house_run_proof.specs.Rounds.{AsksAt};
 ghost use Rattle.octo_house_run.specs.Asks.{AskLeaves};
 ghost use Rattle.octo_house_run.specs.Own.{AsksOfWorkers, Looks, own_moments};
 ghost use Rattle.octo_house_run.specs.Reconnecting.{is_due, seen_in};
-ghost use Rattle.octo_house_run.specs.Runs.{Leads};
+ghost use Rattle.octo_house_run.specs.Runs.{Leads, LeadsOnSome};
 ghost use Rattle.octo_house_run.specs.Tallies.{AreOf};
 
 use crate::reconnect::Reconnect;
@@ -144,6 +144,8 @@ pub(crate) fn answer_next<C: Counter, K: Keeper, S: Shelf>(
     // The history goes on.
     ensures leads { Leads (C.past counter.old) (C.past counter.new)
         (S.files shelf.old) (S.files shelf.new) moment house.old house.new }
+    ensures some { LeadsOnSome (C.past counter.old) (C.past counter.new)
+        moment house.old house.new }
     ensures counted { Became (C.past counter.old) (C.past counter.new)
         (λ _ added. AreOf result added) }
     ensures asks { Became (C.past counter.old) (C.past counter.new)
@@ -188,6 +190,8 @@ fn answer_ask<C: Counter, K: Keeper, S: Shelf>(
     requires open { C.closed counter.old ≡ false }
     ensures leads { Leads (C.past counter.old) (C.past counter.new)
         (S.files shelf.old) (S.files shelf.new) moment house.old house.new }
+    ensures some { LeadsOnSome (C.past counter.old) (C.past counter.new)
+        moment house.old house.new }
     ensures counted { Became (C.past counter.old) (C.past counter.new)
         (λ _ added. AreOf (Some result) added) }
     ensures asks { Became (C.past counter.old) (C.past counter.new)

@@ -10,7 +10,7 @@ ghost use Rattle.octo_house_rules.specs.Tied.{TiesLines};
 ghost use Rattle.octo_house_tables.specs.Kept.{KeepsRows};
 ghost use Rattle.octo_house.specs.State.{IsListed, session_of, tables_of};
 ghost use Rattle.octo_house_run.specs.Own.{AsksOfWorkers, ConnectsItself};
-ghost use Rattle.octo_house_run.specs.Runs.{HasRun, RunKeepsPrints, IsFresh, IsOver, ArePassed, begins};
+ghost use Rattle.octo_house_run.specs.Runs.{HasRun, HasRunOver, RunKeepsPrints, IsFresh, IsOver, ArePassed, begins};
 ghost use Rattle.octo_house_run.specs.Tallies.{is_over};
 
 use crate::answering::answer_next;
@@ -52,9 +52,12 @@ pub fn run<R: Wait, C: Counter, L: Link, T: Clock, K: Keeper, S: Shelf>(
     requires answered { C.given counter.old ≡ None }
     requires open { C.closed counter.old ≡ false }
 
-    // The history is legal, and leads to the host and its files; the shelf's files are those that it names.
+    // The history is legal, and leads to the host and its files; the shelf's files are those that it names. If the shelf
+    // records nothing, there are contents of it over which the history is legal.
     ensures history { HasRun (C.past counter.old) (C.past counter.new)
         (S.files shelf.old) (S.files shelf.new) house.old house.new }
+    ensures contents { HasRunOver (C.past counter.old) (C.past counter.new)
+        house.old house.new }
     ensures listed { IsListed (S.files shelf.old) house.old
         → IsListed (S.files shelf.new) house.new }
     ensures kept { KeepsRows (K.tables keeper.old) (K.tables keeper.new)

@@ -11,7 +11,7 @@ use Rattle.octo_house_run_proof.specs.Rounds.{AsksAt}
 use Rattle.octo_house_run_proof.proofs.Counting.{call_asks}
 use Rattle.octo_house_run.specs.Own.{own_moments}
 use Rattle.octo_house_run.specs.Tallies.{AreOf}
-use Rattle.octo_house_run.proofs.Asking.{call_walks}
+use Rattle.octo_house_run.proofs.Asking.{call_walks, some_walks}
 use Rattle.octo_house_run.proofs.Owning.{call_none}
 use Rattle.octo_house_run.proofs.Tallying.{call_counts}
 use Rattle.octo_house_run.proofs.answering.answer_ask.Goals as goal
@@ -59,3 +59,15 @@ returns-clause-own g c other =
     let Adds_by : Option Given → Type 0 = λ given. IfSome given (λ one. Adds past past' (entry.Call c.args.worker one.ask c.args.moment c.ask-answer.result ∷ [])) in
     became_so past past' _ (λ _ added. own_moments added ≡ []) (subst Adds_by c.requires.given c.answer.ensures.past)
     (λ old added is. ap own_moments is ∙ call_none c.args.worker c.args.ask c.args.moment c.ask-answer.result other)
+
+pub returns-clause-some : goal.returns-clause-some
+returns-clause-some g c =
+    let past = g.C.Counter.past c.args.counter.now in
+    let past' = g.C.Counter.past c.answer.new.self in
+    let known = known_of c.args.house.now in
+    let known' = known_of c.ask-answer.new.self in
+    let x = c.ask-answer.result in
+    let Adds_by : Option Given → Type 0 = λ given. IfSome given (λ one. Adds past past' (entry.Call c.args.worker one.ask c.args.moment x ∷ [])) in
+    let adds : Adds past past' (entry.Call c.args.worker c.args.ask c.args.moment x ∷ []) = subst Adds_by c.requires.given c.answer.ensures.past in
+    some_walks known known' (session_of c.args.house.now) (session_of c.ask-answer.new.self) past past' c.args.worker c.args.ask c.args.moment x adds
+    c.ask-answer.ensures.some c.ask-answer.ensures.rest.apart.sender c.ask-answer.ensures.rest.apart.up refl

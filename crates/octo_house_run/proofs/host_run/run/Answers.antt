@@ -11,6 +11,7 @@ use Rattle.octo_house_run_proof.proofs.Hearing.{temps_none}
 use Rattle.octo_house_run_proof.proofs.Showing.{begin_shows}
 use Rattle.octo_house_run_proof.proofs.Timing.{Timed, timed_begins, timed_round, timed_later, timed_ends}
 use Rattle.octo_outside.proofs.Recorded.{became_same}
+use Rattle.octo_house_run.proofs.Contents.{begin_over, round_over, end_over}
 use Rattle.octo_house_run.proofs.Running.{begin_walks, walks_round, end_walks, tally_then, no_entry, over_by}
 use Rattle.octo_house_run.proofs.Rounds.{counted_round, counted_end, uses_round, uses_end, temps_round, temps_end_of}
 use Rattle.octo_house_print_proof.proofs.LineRecorded.{begin_in_step}
@@ -25,6 +26,7 @@ loop-init g c =
     let Counted : Tally → Type 0 = λ t. Became past past (λ _ added. tally_of added ≡ t) in
     record {
       leads = begin_walks c.args.house.now past (g.S.Shelf.files c.args.shelf.now) c.requires.fresh;
+      contents = begin_over c.args.house.now past c.requires.fresh;
       counted = subst Counted (sym c.no_tally-tally.ensures) (no_entry past);
       kept = λ begun is. is;
       faults = became_same past _ (λ old. none_counted (g.K.Keeper.faults c.args.keeper.now) (g.S.Shelf.faults c.args.shelf.now) (g.L.Link.faults c.args.link.now));
@@ -62,6 +64,8 @@ loop-preserved g c =
       leads = walks_round first before mid after (g.S.Shelf.files c.args.shelf.now) (g.S.Shelf.files c.loop.shelf) held c.args.house.now c.loop.house
           c.answer_next-asked.new.house c.take_turn-heard.new.house c.loop.moment moment (omega (arith, c.max-moment.ensures)) i.leads a.leads
           (t.leads held moment (omega arith));
+      contents = round_over first before mid after c.args.house.now c.loop.house c.answer_next-asked.new.house c.take_turn-heard.new.house c.loop.moment moment
+          (omega (arith, c.max-moment.ensures)) i.contents a.some t.leads;
       counted = subst Counted (sym c.tally_after-tally.ensures)
           (tally_then first mid after None _ (tally_then first before mid c.answer_next-asked.result c.loop.tally i.counted a.counted) t.counted);
       kept = λ begun is. t.kept begun (a.rest.kept begun (i.kept begun is));
@@ -108,6 +112,18 @@ returns-then-is_over-clause-history g c =
     c.take_turn-heard.new.house c.loop.moment moment (omega (arith, c.max-moment.ensures)) c.loop.invariant.leads c.answer_next-asked.ensures.leads
     (c.take_turn-heard.ensures.leads held moment (omega arith)))
     (end_walks c.take_turn-heard.new.house after last held moment c.close.ensures.past)
+
+pub returns-then-is_over-clause-contents : goal.returns-then-is_over-clause-contents
+returns-then-is_over-clause-contents g c =
+    let first = g.C.Counter.past c.args.counter.now in
+    let before = g.C.Counter.past c.loop.counter in
+    let mid = g.C.Counter.past c.answer_next-asked.new.counter in
+    let after = g.C.Counter.past c.take_turn-heard.new.counter in
+    let moment = c.max-moment.result in
+    end_over first after (g.C.Counter.past c.close.new.self) c.args.house.now c.take_turn-heard.new.house moment
+    (round_over first before mid after c.args.house.now c.loop.house c.answer_next-asked.new.house c.take_turn-heard.new.house c.loop.moment moment
+    (omega (arith, c.max-moment.ensures)) c.loop.invariant.contents c.answer_next-asked.ensures.some c.take_turn-heard.ensures.leads)
+    c.close.ensures.past
 
 pub returns-then-is_over-clause-over : goal.returns-then-is_over-clause-over
 returns-then-is_over-clause-over g c =

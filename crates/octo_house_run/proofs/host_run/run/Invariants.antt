@@ -7,6 +7,7 @@ use Rattle.octo_house_rules.specs.Temps.{NotesTemps}
 use Rattle.octo_house_run_proof.proofs.Timing.{Timed}
 use Rattle.octo_house_print_proof.specs.InStep.{InStep}
 use Rattle.octo_house_tables.specs.Kept.{KeepsRows}
+use Rattle.octo_house_contents_proof.specs.Contents.{OnSome, WalksOver}
 use Rattle.octo_house_rules.specs.Walks.{Walks}
 use Rattle.octo_house.specs.State.{IsListed, session_of, tables_of}
 use Rattle.octo_house_run.specs.Own.{AsksOfWorkers, Waits, own_moments}
@@ -19,6 +20,7 @@ abbrev pub invariant-loop : goal.invariant-loop
 invariant-loop g l = record {
   leads : Walks (g.C.Counter.past l.initial.counter) (g.C.Counter.past l.counter) (g.S.Shelf.files l.initial.shelf) (g.S.Shelf.files l.shelf)
       (begins l.initial.house) (stands_with l.house l.moment);
+  contents : WalksOver (g.C.Counter.past l.initial.counter) (g.C.Counter.past l.counter) (OnSome (begins l.initial.house)) (OnSome (stands_with l.house l.moment));
   counted : Became (g.C.Counter.past l.initial.counter) (g.C.Counter.past l.counter) (λ _ added. tally_of added ≡ l.tally);
   kept : KeepsRows (g.K.Keeper.tables l.initial.keeper) (g.K.Keeper.tables l.keeper) (tables_of l.initial.house) (tables_of l.house);
   faults : Became (g.C.Counter.past l.initial.counter) (g.C.Counter.past l.counter) (λ _ added. AreCounted (g.K.Keeper.faults l.initial.keeper) (g.K.Keeper.faults l.keeper)

@@ -3,6 +3,7 @@ use Rattle.octo_serve.proofs.serving.run_house.Goals as goal
 pub returns-clause-ran : goal.returns-clause-ran
 returns-clause-ran g c = record {
   history = c.run.ensures.history;
+  contents = c.run.ensures.contents;
   over = c.run.ensures.over;
   listed = c.run.ensures.listed;
   kept = c.run.ensures.kept;
