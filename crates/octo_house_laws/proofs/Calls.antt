@@ -16,7 +16,7 @@ by_answer : (ask : Ask) (x : Answer) (s : Standing) → (x ≡ answer.NoMemory) 
 by_answer ask x s (inl none) = inl none
 by_answer ask x s (inr may) = inr (access ask s.files s.known x may)
 
-by_entry : (e : Entry) (s : Standing) → IsLegal e s → IsPermittedEntry e s
+pub by_entry : (e : Entry) (s : Standing) → IsLegal e s → IsPermittedEntry e s
 by_entry (entry.Call worker ask moment x) s l = by_answer ask x s l.1.may
 by_entry (entry.Note note) s l = tt
 by_entry entry.Close s l = tt
@@ -25,7 +25,7 @@ pub every_call : EveryCallIsPermitted
 every_call [] s l = tt
 every_call (e ∷ es) s l = (by_entry e s l.0, every_call es (after_entry e s) l.1)
 
-once_entry : (e : Entry) (s : Standing) → IsLegal e s → IsEntryOnce e s
+pub once_entry : (e : Entry) (s : Standing) → IsLegal e s → IsEntryOnce e s
 once_entry (entry.Call worker ask moment x) s l = λ user kept repeats. once ask user kept s.files s.known x repeats l.1.may
 once_entry (entry.Note note) s l = tt
 once_entry entry.Close s l = tt

@@ -1,5 +1,6 @@
 pub mod Asked
 pub mod Calls
+pub mod Contents
 pub mod Courses
 pub mod Desk
 pub mod Hosts

@@ -53,7 +53,7 @@ module _ (limits : Limits) where
   )
 
   -- what an entry issues, and the desk after it
-  cool_entry : (e : Entry) (s : Standing) → IsLegal e s → Cool limits s.known.desk
+  pub cool_entry : (e : Entry) (s : Standing) → IsLegal e s → Cool limits s.known.desk
       → AllByRecursion (IsCoolLine limits) (lines_at e) × Cool limits (after_entry e s).known.desk
   cool_entry (entry.Call worker ask moment x) s l h = (
     tt,
@@ -73,7 +73,7 @@ module _ (limits : Limits) where
       let one : AllByRecursion (IsCoolLine limits) (lines_at e) × Cool limits (after_entry e s).known.desk = cool_entry e s l.0 h in
       each_append (IsCoolLine limits) (lines_at e) (issued_in es) one.0 (cool_history es (after_entry e s) l.1 one.1)
 
-  new_cool : (scripts : ScriptTexts) (poll_ms : ℕ) → AreCoolScripts limits scripts → Cool limits (new_desk scripts limits poll_ms)
+  pub new_cool : (scripts : ScriptTexts) (poll_ms : ℕ) → AreCoolScripts limits scripts → Cool limits (new_desk scripts limits poll_ms)
   new_cool scripts poll_ms a = record {
     limits_are = refl;
     scripts = λ at. recursion_from_All (IsCool limits) (texts_at at scripts) (a at);

@@ -150,11 +150,11 @@ by-answer ask x s (inr may) = λ user names plain asks.
       | inr is ↦ inr (inr (rw is (isolation ask user s.files [] s.known (host_of (view_of user s.known)) asks plain (same-view ask.key user s.known names))))
     ]
 
-by-entry : (e : Entry) (s : Standing) → IsLegal e s → IsEntryIsolated e s
-by-entry (entry.Call worker ask moment x) s l = by-answer ask x s l.1.may
-by-entry (entry.Note note) s l = tt
-by-entry entry.Close s l = tt
+pub isolated_entry : (e : Entry) (s : Standing) → IsLegal e s → IsEntryIsolated e s
+isolated_entry (entry.Call worker ask moment x) s l = by-answer ask x s l.1.may
+isolated_entry (entry.Note note) s l = tt
+isolated_entry entry.Close s l = tt
 
 pub every_caller : EveryCallerIsIsolated
 every_caller [] s l = tt
-every_caller (e ∷ es) s l = (by-entry e s l.0, every_caller es (after_entry e s) l.1)
+every_caller (e ∷ es) s l = (isolated_entry e s l.0, every_caller es (after_entry e s) l.1)

@@ -1,4 +1,5 @@
 pub mod Calls
+pub mod Contents
 pub mod Courses
 pub mod Hosts
 pub mod Limits

@@ -1,5 +1,6 @@
 //! The laws.
 ghost use Rattle.octo_house_laws.specs.Calls.{EveryCallIsPermitted, EveryPutIsMadeOnce};
+ghost use Rattle.octo_house_laws.specs.Contents.{EveryHistoryKeepsLawsOver, EveryLineOverIsCool};
 ghost use Rattle.octo_house_laws.specs.Courses.{EveryDoneRecordHasACourse, EveryPrintFollowsACourse};
 ghost use Rattle.octo_house_laws.specs.Hosts.{EveryHostKeepsTheLaws};
 ghost use Rattle.octo_house_laws.specs.Limits.{EveryLineIsCool, EveryLineOfSettingsIsCool};
@@ -49,6 +50,18 @@ pub fn every_put_is_made_once()
 /// only if memory runs out, the keeper fails, or the numbers of arrival are used up.
 pub fn every_caller_is_isolated()
     ensures { EveryCallerIsIsolated }
+{}
+
+/// Over whatever contents a shelf had before each entry, each call of a history that is legal over these is answered as its
+/// caller's permissions say, makes a repeated put once, and tells a caller without the permission ADMIN of queue and prints
+/// what the caller's own rows determine.
+pub fn every_history_keeps_laws_over_contents()
+    ensures { EveryHistoryKeepsLawsOver }
+{}
+
+/// So no line asks a heater for more than the limits of the settings with which the host began.
+pub fn every_line_over_contents_is_within_limits()
+    ensures { EveryLineOverIsCool }
 {}
 
 /// All laws together, for every legal history of a host that begins on kept tables whose prints

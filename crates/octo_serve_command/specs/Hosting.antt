@@ -1,5 +1,5 @@
 -- What serving by settings comes to.
-use Rattle.std.specs.Prelude.{◌≡◌, ℕ, ◌≤◌, Bool, length, List, Option, None, Some, Result, Ok, Err}
+use Rattle.std.specs.Prelude.{◌≡◌, ℕ, ◌≤◌, Bool, length, List, [], Option, None, Some, Result, Ok, Err}
 use Rattle.octo_outside.specs.Recorded.{Rose}
 use Rattle.octo_outside.specs.Traits.{Files}
 use Rattle.octo_outside_doors.specs.declared.door.Doors.{Doors}
@@ -12,6 +12,7 @@ use Rattle.print_queue.specs.Lawful.{IsLawful}
 use Rattle.printer_model.specs.declared.event.WorldEvent.{WorldEvent}
 use Rattle.octo_house_rules.specs.Legal.{beginning}
 use Rattle.octo_house_rules.specs.Headline.{KeepsPrints}
+use Rattle.octo_house_laws.specs.Contents.{KeepsLawsOver}
 use Rattle.octo_house_laws.specs.Hosts.{KeepsLaws}
 use Rattle.octo_house_laws.specs.Limits.{IssuesCoolLines}
 use Rattle.octo_house_tables.specs.Kept.{IsKept}
@@ -93,6 +94,13 @@ pub record KeepsAllLaws (s : Settings) (first : House) (files : List ShelfFile) 
 abbrev pub HasLaws : Settings → Around → House → History → Type 0
 HasLaws s old first history = (files : List ShelfFile) → old.shelf.files ≡ Some files → KeepsAllLaws s first files history
 
+-- whatever the shelf records, it had some contents before each entry over which the laws of calls hold of all that was asked, answered and
+-- noted at a host that began as this one; no issued line was too hot
+pub record HasLawsOver (s : Settings) (first : House) (history : History) : Type 0 where
+  pub contents : List (List ShelfFile)
+  pub laws : KeepsLawsOver contents history (beginning s.window s.limit_ms (known_of first) [])
+  pub cool : IssuesCoolLines s.limits history
+
 -- it began, and served its doors until it ended; this is known of what was asked, answered and noted
 pub record HasServed (s : Settings) (old new : Around) (r : HostReport) (known : HistoryData) : Type 0 where
   pub first : House
@@ -107,6 +115,8 @@ pub record HasServed (s : Settings) (old new : Around) (r : HostReport) (known :
   pub prints : HasPrints s between new first known.history
   -- who was denied, what callers learned of each other, puts that were repeated, and the courses, records and temperatures of prints
   pub laws : HasLaws s between first known.history
+  -- what of that holds over a real folder too
+  pub laws_over : HasLawsOver s first known.history
   pub is : r ≡ served_report calls held
 
 -- what serving by these settings comes to: the host doesn't begin, or there is no memory for its workers; or it serves

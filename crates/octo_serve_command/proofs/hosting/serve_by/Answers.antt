@@ -3,7 +3,7 @@ use Rattle.octo_serve.specs.Around.{link_state, keeper_state, shelf_state, door_
 use Rattle.octo_serve_command.specs.Hosting.{around}
 use Rattle.octo_serve_command.specs.declared.hosting.HostEnd.{HostEnd}
 use Rattle.octo_house.specs.declared.faults.BeginFault.TheVariants as fault
-use Rattle.octo_serve_command.proofs.Laws.{host_laws}
+use Rattle.octo_serve_command.proofs.Laws.{host_laws, host_laws_over}
 use Rattle.octo_serve_command.proofs.Printing.{host_prints}
 use Rattle.octo_serve_command.proofs.Serving.{has_served, not_served, served_causes}
 use Rattle.octo_serve_command.proofs.hosting.serve_by.Goals as goal
@@ -52,6 +52,8 @@ returns-in-Ok-serve-clause-serves g c =
           c.serve.new.house ran.calls ran.doors_held _ e.made c.in-Ok-serve.ensures.ok;
       laws = host_laws c.args.settings (at c.args.link.now c.args.clock.now c.begin_by.new.keeper c.begin_by.new.shelf c.args.doors.now) _ c.in-Ok.house
           c.serve.new.house ran.calls ran.doors_held _ c.requires.sound e.made c.in-Ok-serve.ensures.ok;
+      laws_over = host_laws_over c.args.settings (at c.args.link.now c.args.clock.now c.begin_by.new.keeper c.begin_by.new.shelf c.args.doors.now) _ c.in-Ok.house
+          c.serve.new.house ran.calls ran.doors_held _ c.requires.sound e.made c.in-Ok-serve.ensures.ok;
       is = c.has_served.ensures.report;
     })
 
@@ -86,6 +88,8 @@ returns-in-Ok-serve-clause-causes g c =
       prints = host_prints c.args.settings (at c.args.link.now c.args.clock.now c.begin_by.new.keeper c.begin_by.new.shelf c.args.doors.now) _ c.in-Ok.house
           c.serve.new.house ran.calls ran.doors_held _ e.made c.in-Ok-serve.ensures.ok;
       laws = host_laws c.args.settings (at c.args.link.now c.args.clock.now c.begin_by.new.keeper c.begin_by.new.shelf c.args.doors.now) _ c.in-Ok.house
+          c.serve.new.house ran.calls ran.doors_held _ c.requires.sound e.made c.in-Ok-serve.ensures.ok;
+      laws_over = host_laws_over c.args.settings (at c.args.link.now c.args.clock.now c.begin_by.new.keeper c.begin_by.new.shelf c.args.doors.now) _ c.in-Ok.house
           c.serve.new.house ran.calls ran.doors_held _ c.requires.sound e.made c.in-Ok-serve.ensures.ok;
       is = c.has_served.ensures.report;
     })
