@@ -83,13 +83,19 @@ returns-in-Asked-clause-own g c workers =
     }))
 
 pub returns-in-Nothing-clause-some : goal.returns-in-Nothing-clause-some
-returns-in-Nothing-clause-some g c =
-    ([], [], subst (λ (h : Option History). Leads h (g.C.Counter.past c.connect_if_due.new.counter) (Some []) (Some []) c.args.moment c.args.house.now c.connect_if_due.new.house)
-    c.next.ensures.past (c.connect_if_due.ensures.leads (Some [])))
+returns-in-Nothing-clause-some g c = (
+  [],
+  [],
+  subst (λ (h : Option History). Leads h (g.C.Counter.past c.connect_if_due.new.counter) (Some []) (Some []) c.args.moment c.args.house.now c.connect_if_due.new.house)
+      c.next.ensures.past (c.connect_if_due.ensures.leads (Some [])),
+)
 
 pub returns-in-Asked-clause-some : goal.returns-in-Asked-clause-some
 returns-in-Asked-clause-some g c =
-    let some = c.answer_ask-asked.ensures.some in
-    (some.0, some.1, subst (λ (h : Option History). Leads h (g.C.Counter.past c.answer_ask-asked.new.counter) (Some some.0) (Some some.1)
-    c.args.moment c.args.house.now c.answer_ask-asked.new.house)
-    c.next.ensures.past some.2)
+    let some = c.answer_ask-asked.ensures.some in (
+      some.0,
+      some.1,
+      subst (λ (h : Option History). Leads h (g.C.Counter.past c.answer_ask-asked.new.counter) (Some some.0) (Some some.1)
+          c.args.moment c.args.house.now c.answer_ask-asked.new.house)
+          c.next.ensures.past some.2,
+    )
