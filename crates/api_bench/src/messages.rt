@@ -115,6 +115,7 @@ fn message_of(alloc: Global, pattern: &Pattern) -> anyhow::Result<Message> {
         method,
         path: Blob::from_slice(alloc, pattern.path.as_bytes())?,
         key: Some(Blob::from_slice(alloc, b"rootxkeyx0000000")?),
+        origin: None,
         kind: Some(Blob::from_slice(alloc, pattern.kind.as_bytes())?),
         sized: pattern.posts,
         encoded: false,

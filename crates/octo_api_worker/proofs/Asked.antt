@@ -1,5 +1,5 @@
 -- The calls that connections lead to, whatever they record.
-use Rattle.std.proofs.Common.{◌≡◌, Bool, true, List, [], ◌∷◌, ◌++◌, Option, refl, sym, ap, subst, ◌∙◌, append-nil}
+use Rattle.std.proofs.Common.{◌≡◌, ℕ, Bool, true, List, [], ◌∷◌, ◌++◌, Option, refl, sym, ap, subst, ◌∙◌, append-nil}
 use Rattle.std.specs.Prelude.{All}
 use Rattle.std.proofs.lemmas.List.Elements.{All-nil, All-cons, All-append}
 use Rattle.octo_outside.proofs.Recorded.{became_then, became_same, became_so}
@@ -12,11 +12,12 @@ use Rattle.octo_api_worker.specs.Worked.{IsAsk, AddsAsks, Leaves, no_leave, HasL
 use Rattle.octo_api_worker.proofs.Calls.{added_none}
 
 -- a message leads to at most one call
-pub leads_to : (m : Message) (reply : WorkerReply) (is_open : Bool) (calls : History) → IsReplied m reply is_open calls → LeadsTo calls
-leads_to m reply is_open calls (shown page is) = no_call
-leads_to m reply is_open calls (refused direct r of_api says replies) = no_call
-leads_to m reply is_open calls (ended ask r of_api says replies) = no_call
-leads_to m reply is_open calls (answered ask worker moment a r of_api says callers replies) = one_call worker moment ask a callers
+pub leads_to : (origins : List (List ℕ)) (m : Message) (reply : WorkerReply) (is_open : Bool) (calls : History)
+    → IsReplied origins m reply is_open calls → LeadsTo calls
+leads_to origins m reply is_open calls (shown page is) = no_call
+leads_to origins m reply is_open calls (refused direct r more of_api says replies is) = no_call
+leads_to origins m reply is_open calls (ended ask r more of_api says replies is) = no_call
+leads_to origins m reply is_open calls (answered ask worker moment a r more of_api says callers replies is) = one_call worker moment ask a callers
 
 -- nothing was asked
 pub once_none : (mine mine' : Option History) → mine' ≡ mine → AsksOnce mine mine'

@@ -7,77 +7,78 @@ use Rattle.octo_outside_doors.specs.declared.door.Knock.TheVariants as knock
 use Rattle.octo_outside_doors.specs.Doors.{ConnState, fresh_conn, Comes}
 use Rattle.octo_api_worker.specs.declared.at_door.Visit.{Visit}
 use Rattle.octo_api_worker.specs.declared.at_door.Visit.TheVariants as visit
+use Rattle.octo_api_worker.specs.declared.terms.Terms.{Terms}
 use Rattle.octo_api_worker.specs.Served.{IsServed}
 use Rattle.octo_api_worker.proofs.Calls.{added_none}
 use Rattle.octo_api_worker.specs.Worked.{Served, none_served, one_more, is_open, Leaves, no_leave, IsVisit, one_served, last_served, none_came, host_ended, door_ended, door_failed, HasVisited, HasLeft, IsWorking, HasWorked}
 
 -- a connection came and was served
-pub visit_served : {C : Type 0} (state : C → ConnState) (patience : ℕ) (conn : C) (inputs : List (List ℕ)) (coming coming' : Option (List (List ℕ)))
+pub visit_served : {C : Type 0} (state : C → ConnState) (terms : Terms) (conn : C) (inputs : List (List ℕ)) (coming coming' : Option (List (List ℕ)))
     (kept kept' : Option (List ConnState)) (mine mine' : Option History) (v : Visit)
     → Comes state inputs (knock.Conn conn) coming → coming' ≡ coming → (v ≡ visit.Open) ⊎ (v ≡ visit.Closed)
     → ((input : List ℕ) → state conn ≡ fresh_conn input → (after : ConnState) × (calls : History)
-    × IsServed patience input after (is_open v) calls × Adds kept kept' (after ∷ []) × Adds mine mine' calls)
-    → HasVisited patience inputs coming' kept kept' mine mine' v
-visit_served state patience conn [] coming coming' kept kept' mine mine' v comes same either serves = absurd comes
-visit_served state patience conn (input ∷ inputs) coming coming' kept kept' mine mine' visit.Open comes same either serves =
+    × IsServed terms input after (is_open v) calls × Adds kept kept' (after ∷ []) × Adds mine mine' calls)
+    → HasVisited terms inputs coming' kept kept' mine mine' v
+visit_served state terms conn [] coming coming' kept kept' mine mine' v comes same either serves = absurd comes
+visit_served state terms conn (input ∷ inputs) coming coming' kept kept' mine mine' visit.Open comes same either serves =
     let did = serves input comes.0 in
-    let At : Option (List (List ℕ)) → Type 0 = λ now. IsVisit patience (input ∷ inputs) now (did.0 ∷ []) did.1 visit.Open in
+    let At : Option (List (List ℕ)) → Type 0 = λ now. IsVisit terms (input ∷ inputs) now (did.0 ∷ []) did.1 visit.Open in
     (did.0 ∷ [], did.1, subst At (sym (same ∙ comes.1)) (one_served input inputs did.0 did.1 did.2), did.3, did.4)
-visit_served state patience conn (input ∷ inputs) coming coming' kept kept' mine mine' visit.Closed comes same either serves =
+visit_served state terms conn (input ∷ inputs) coming coming' kept kept' mine mine' visit.Closed comes same either serves =
     let did = serves input comes.0 in
-    let At : Option (List (List ℕ)) → Type 0 = λ now. IsVisit patience (input ∷ inputs) now (did.0 ∷ []) did.1 visit.Closed in
+    let At : Option (List (List ℕ)) → Type 0 = λ now. IsVisit terms (input ∷ inputs) now (did.0 ∷ []) did.1 visit.Closed in
     (did.0 ∷ [], did.1, subst At (sym (same ∙ comes.1)) (last_served input inputs did.0 did.1 did.2), did.3, did.4)
-visit_served state patience conn (input ∷ inputs) coming coming' kept kept' mine mine' visit.Ended comes same (inl e) serves = absurd cc
-visit_served state patience conn (input ∷ inputs) coming coming' kept kept' mine mine' visit.Ended comes same (inr e) serves = absurd cc
-visit_served state patience conn (input ∷ inputs) coming coming' kept kept' mine mine' visit.Failed comes same (inl e) serves = absurd cc
-visit_served state patience conn (input ∷ inputs) coming coming' kept kept' mine mine' visit.Failed comes same (inr e) serves = absurd cc
+visit_served state terms conn (input ∷ inputs) coming coming' kept kept' mine mine' visit.Ended comes same (inl e) serves = absurd cc
+visit_served state terms conn (input ∷ inputs) coming coming' kept kept' mine mine' visit.Ended comes same (inr e) serves = absurd cc
+visit_served state terms conn (input ∷ inputs) coming coming' kept kept' mine mine' visit.Failed comes same (inl e) serves = absurd cc
+visit_served state terms conn (input ∷ inputs) coming coming' kept kept' mine mine' visit.Failed comes same (inr e) serves = absurd cc
 
 -- a look that neither serves nor asks
-idle : (patience : ℕ) (inputs : List (List ℕ)) (coming is : Option (List (List ℕ))) (kept kept' : Option (List ConnState)) (mine mine' : Option History)
-    (v : Visit) → coming ≡ is → IsVisit patience inputs is [] [] v → kept' ≡ kept → mine' ≡ mine
-    → HasVisited patience inputs coming kept kept' mine mine' v
-idle patience inputs coming is kept kept' mine mine' v same look k m =
-    let At : Option (List (List ℕ)) → Type 0 = λ now. IsVisit patience inputs now [] [] v in
+idle : (terms : Terms) (inputs : List (List ℕ)) (coming is : Option (List (List ℕ))) (kept kept' : Option (List ConnState)) (mine mine' : Option History)
+    (v : Visit) → coming ≡ is → IsVisit terms inputs is [] [] v → kept' ≡ kept → mine' ≡ mine
+    → HasVisited terms inputs coming kept kept' mine mine' v
+idle terms inputs coming is kept kept' mine mine' v same look k m =
+    let At : Option (List (List ℕ)) → Type 0 = λ now. IsVisit terms inputs now [] [] v in
     ([], [], subst At (sym same) look, added_none kept kept' k, added_none mine mine' m)
 
 -- nothing has come yet
-pub visit_quiet : {C : Type 0} (state : C → ConnState) (patience : ℕ) (inputs : List (List ℕ)) (coming : Option (List (List ℕ)))
+pub visit_quiet : {C : Type 0} (state : C → ConnState) (terms : Terms) (inputs : List (List ℕ)) (coming : Option (List (List ℕ)))
     (kept kept' : Option (List ConnState)) (mine mine' : Option History)
     → Comes state inputs knock.Quiet coming → kept' ≡ kept → mine' ≡ mine
-    → HasVisited patience inputs coming kept kept' mine mine' visit.Open
-visit_quiet state patience [] coming kept kept' mine mine' comes k m = absurd comes
-visit_quiet state patience (input ∷ inputs) coming kept kept' mine mine' comes k m =
-    idle patience (input ∷ inputs) coming (Some (input ∷ inputs)) kept kept' mine mine' visit.Open comes (none_came (input ∷ inputs)) k m
+    → HasVisited terms inputs coming kept kept' mine mine' visit.Open
+visit_quiet state terms [] coming kept kept' mine mine' comes k m = absurd comes
+visit_quiet state terms (input ∷ inputs) coming kept kept' mine mine' comes k m =
+    idle terms (input ∷ inputs) coming (Some (input ∷ inputs)) kept kept' mine mine' visit.Open comes (none_came (input ∷ inputs)) k m
 
 -- the host has ended
-pub visit_closed : (patience : ℕ) (inputs : List (List ℕ)) (coming : Option (List (List ℕ)))
+pub visit_closed : (terms : Terms) (inputs : List (List ℕ)) (coming : Option (List (List ℕ)))
     (kept kept' : Option (List ConnState)) (mine mine' : Option History)
     → coming ≡ Some inputs → kept' ≡ kept → mine' ≡ mine
-    → HasVisited patience inputs coming kept kept' mine mine' visit.Closed
-visit_closed patience inputs coming kept kept' mine mine' same k m =
-    idle patience inputs coming (Some inputs) kept kept' mine mine' visit.Closed same (host_ended inputs) k m
+    → HasVisited terms inputs coming kept kept' mine mine' visit.Closed
+visit_closed terms inputs coming kept kept' mine mine' same k m =
+    idle terms inputs coming (Some inputs) kept kept' mine mine' visit.Closed same (host_ended inputs) k m
 
 -- no connection will come any more
-pub visit_ended : {C : Type 0} (state : C → ConnState) (patience : ℕ) (inputs : List (List ℕ)) (coming : Option (List (List ℕ)))
+pub visit_ended : {C : Type 0} (state : C → ConnState) (terms : Terms) (inputs : List (List ℕ)) (coming : Option (List (List ℕ)))
     (kept kept' : Option (List ConnState)) (mine mine' : Option History)
     → Comes state inputs knock.Ended coming → kept' ≡ kept → mine' ≡ mine
-    → HasVisited patience inputs coming kept kept' mine mine' visit.Ended
-visit_ended state patience [] coming kept kept' mine mine' comes k m =
-    idle patience [] coming (Some []) kept kept' mine mine' visit.Ended comes door_ended k m
-visit_ended state patience (input ∷ inputs) coming kept kept' mine mine' comes k m = absurd comes
+    → HasVisited terms inputs coming kept kept' mine mine' visit.Ended
+visit_ended state terms [] coming kept kept' mine mine' comes k m =
+    idle terms [] coming (Some []) kept kept' mine mine' visit.Ended comes door_ended k m
+visit_ended state terms (input ∷ inputs) coming kept kept' mine mine' comes k m = absurd comes
 
 -- the door failed
-pub visit_failed : (patience : ℕ) (inputs : List (List ℕ)) (coming : Option (List (List ℕ)))
+pub visit_failed : (terms : Terms) (inputs : List (List ℕ)) (coming : Option (List (List ℕ)))
     (kept kept' : Option (List ConnState)) (mine mine' : Option History)
     → coming ≡ Some [] → kept' ≡ kept → mine' ≡ mine
-    → HasVisited patience inputs coming kept kept' mine mine' visit.Failed
-visit_failed patience inputs coming kept kept' mine mine' same k m =
-    idle patience inputs coming (Some []) kept kept' mine mine' visit.Failed same (door_failed inputs) k m
+    → HasVisited terms inputs coming kept kept' mine mine' visit.Failed
+visit_failed terms inputs coming kept kept' mine mine' same k m =
+    idle terms inputs coming (Some []) kept kept' mine mine' visit.Failed same (door_failed inputs) k m
 
 -- a worker that begins
-pub work_begins : (patience : ℕ) (inputs : List (List ℕ)) (coming : Option (List (List ℕ))) (kept : Option (List ConnState)) (mine : Option History)
-    → coming ≡ Some inputs → IsWorking patience inputs coming kept kept mine mine
-work_begins patience inputs coming kept mine is = record {
+pub work_begins : (terms : Terms) (inputs : List (List ℕ)) (coming : Option (List (List ℕ))) (kept : Option (List ConnState)) (mine : Option History)
+    → coming ≡ Some inputs → IsWorking terms inputs coming kept kept mine mine
+work_begins terms inputs coming kept mine is = record {
   taken = [];
   rest = inputs;
   conns = [];
@@ -102,13 +103,13 @@ adds_end {A} old new xs adds =
     subst At (sym (append-nil xs)) adds
 
 -- one look more
-step : (patience : ℕ) (inputs : List (List ℕ)) (coming : Option (List (List ℕ)))
+step : (terms : Terms) (inputs : List (List ℕ)) (coming : Option (List (List ℕ)))
     (kept mid kept' : Option (List ConnState)) (mine made mine' : Option History)
     (taken rest : List (List ℕ)) (conns conns' : List ConnState) (calls calls' : History)
-    → inputs ≡ taken ++ rest → Served patience taken conns true calls → Adds kept mid conns → Adds mine made calls
-    → IsVisit patience rest coming conns' calls' visit.Open → Adds mid kept' conns' → Adds made mine' calls'
-    → IsWorking patience inputs coming kept kept' mine mine'
-step patience inputs coming kept mid kept' mine made mine' taken rest conns conns' calls calls' split walk k m (one_served input left conn more is) k' m' = record {
+    → inputs ≡ taken ++ rest → Served terms taken conns true calls → Adds kept mid conns → Adds mine made calls
+    → IsVisit terms rest coming conns' calls' visit.Open → Adds mid kept' conns' → Adds made mine' calls'
+    → IsWorking terms inputs coming kept kept' mine mine'
+step terms inputs coming kept mid kept' mine made mine' taken rest conns conns' calls calls' split walk k m (one_served input left conn more is) k' m' = record {
   taken = taken ++ input ∷ [];
   rest = left;
   conns = conns ++ conn ∷ [];
@@ -119,7 +120,7 @@ step patience inputs coming kept mid kept' mine made mine' taken rest conns conn
   made = adds_then mine made mine' calls more m m';
   left = refl;
 }
-step patience inputs coming kept mid kept' mine made mine' taken rest conns conns' calls calls' split walk k m (none_came left) k' m' = record {
+step terms inputs coming kept mid kept' mine made mine' taken rest conns conns' calls calls' split walk k m (none_came left) k' m' = record {
   taken = taken;
   rest = left;
   conns = conns;
@@ -132,13 +133,13 @@ step patience inputs coming kept mid kept' mine made mine' taken rest conns conn
 }
 
 -- the last look of a worker whose host has ended
-stop : (patience : ℕ) (inputs : List (List ℕ)) (coming : Option (List (List ℕ)))
+stop : (terms : Terms) (inputs : List (List ℕ)) (coming : Option (List (List ℕ)))
     (kept mid kept' : Option (List ConnState)) (mine made mine' : Option History) (saw_close : Bool)
     (taken rest : List (List ℕ)) (conns conns' : List ConnState) (calls calls' : History)
-    → saw_close ≡ true → inputs ≡ taken ++ rest → Served patience taken conns true calls → Adds kept mid conns → Adds mine made calls
-    → IsVisit patience rest coming conns' calls' visit.Closed → Adds mid kept' conns' → Adds made mine' calls'
-    → HasWorked patience inputs coming kept kept' mine mine' saw_close true
-stop patience inputs coming kept mid kept' mine made mine' saw_close taken rest conns conns' calls calls' saw split walk k m (last_served input left conn more is) k' m' = record {
+    → saw_close ≡ true → inputs ≡ taken ++ rest → Served terms taken conns true calls → Adds kept mid conns → Adds mine made calls
+    → IsVisit terms rest coming conns' calls' visit.Closed → Adds mid kept' conns' → Adds made mine' calls'
+    → HasWorked terms inputs coming kept kept' mine mine' saw_close true
+stop terms inputs coming kept mid kept' mine made mine' saw_close taken rest conns conns' calls calls' saw split walk k m (last_served input left conn more is) k' m' = record {
   taken = taken ++ input ∷ [];
   rest = left;
   conns = conns ++ conn ∷ [];
@@ -156,7 +157,7 @@ stop patience inputs coming kept mid kept' mine made mine' saw_close taken rest 
   over = λ _. inl (saw, refl);
   failed = λ no. cc;
 }
-stop patience inputs coming kept mid kept' mine made mine' saw_close taken rest conns conns' calls calls' saw split walk k m (host_ended left) k' m' = record {
+stop terms inputs coming kept mid kept' mine made mine' saw_close taken rest conns conns' calls calls' saw split walk k m (host_ended left) k' m' = record {
   taken = taken;
   rest = left;
   conns = conns;
@@ -176,13 +177,13 @@ stop patience inputs coming kept mid kept' mine made mine' saw_close taken rest 
 }
 
 -- the last look of a worker at whose door no connection will come any more
-last_ended : (patience : ℕ) (inputs : List (List ℕ)) (coming : Option (List (List ℕ)))
+last_ended : (terms : Terms) (inputs : List (List ℕ)) (coming : Option (List (List ℕ)))
     (kept mid kept' : Option (List ConnState)) (mine made told mine' : Option History) (saw_close : Bool) (last : History)
     (taken rest : List (List ℕ)) (conns conns' : List ConnState) (calls calls' : History)
-    → inputs ≡ taken ++ rest → Served patience taken conns true calls → Adds kept mid conns → Adds mine made calls
-    → IsVisit patience rest coming conns' calls' visit.Ended → Adds mid kept' conns' → Adds made told calls'
-    → Leaves last → Adds told mine' last → (last ≡ [] → saw_close ≡ true) → HasWorked patience inputs coming kept kept' mine mine' saw_close true
-last_ended patience inputs coming kept mid kept' mine made told mine' saw_close last taken rest conns conns' calls calls' split walk k m door_ended k' m' leaves l parted = record {
+    → inputs ≡ taken ++ rest → Served terms taken conns true calls → Adds kept mid conns → Adds mine made calls
+    → IsVisit terms rest coming conns' calls' visit.Ended → Adds mid kept' conns' → Adds made told calls'
+    → Leaves last → Adds told mine' last → (last ≡ [] → saw_close ≡ true) → HasWorked terms inputs coming kept kept' mine mine' saw_close true
+last_ended terms inputs coming kept mid kept' mine made told mine' saw_close last taken rest conns conns' calls calls' split walk k m door_ended k' m' leaves l parted = record {
   taken = taken;
   rest = [];
   conns = conns;
@@ -202,13 +203,13 @@ last_ended patience inputs coming kept mid kept' mine made told mine' saw_close 
 }
 
 -- the last look of a worker whose door failed
-last_failed : (patience : ℕ) (inputs : List (List ℕ)) (coming : Option (List (List ℕ)))
+last_failed : (terms : Terms) (inputs : List (List ℕ)) (coming : Option (List (List ℕ)))
     (kept mid kept' : Option (List ConnState)) (mine made told mine' : Option History) (saw_close : Bool) (last : History)
     (taken rest : List (List ℕ)) (conns conns' : List ConnState) (calls calls' : History)
-    → inputs ≡ taken ++ rest → Served patience taken conns true calls → Adds kept mid conns → Adds mine made calls
-    → IsVisit patience rest coming conns' calls' visit.Failed → Adds mid kept' conns' → Adds made told calls'
-    → Leaves last → Adds told mine' last → (last ≡ [] → saw_close ≡ true) → HasWorked patience inputs coming kept kept' mine mine' saw_close false
-last_failed patience inputs coming kept mid kept' mine made told mine' saw_close last taken rest conns conns' calls calls' split walk k m (door_failed left) k' m' leaves l parted = record {
+    → inputs ≡ taken ++ rest → Served terms taken conns true calls → Adds kept mid conns → Adds mine made calls
+    → IsVisit terms rest coming conns' calls' visit.Failed → Adds mid kept' conns' → Adds made told calls'
+    → Leaves last → Adds told mine' last → (last ≡ [] → saw_close ≡ true) → HasWorked terms inputs coming kept kept' mine mine' saw_close false
+last_failed terms inputs coming kept mid kept' mine made told mine' saw_close last taken rest conns conns' calls calls' split walk k m (door_failed left) k' m' leaves l parted = record {
   taken = taken;
   rest = left;
   conns = conns;
@@ -228,46 +229,46 @@ last_failed patience inputs coming kept mid kept' mine made told mine' saw_close
 }
 
 -- a worker that goes on after one look more
-pub works_on : (patience : ℕ) (inputs : List (List ℕ)) (coming coming' : Option (List (List ℕ)))
+pub works_on : (terms : Terms) (inputs : List (List ℕ)) (coming coming' : Option (List (List ℕ)))
     (kept mid kept' : Option (List ConnState)) (mine made mine' : Option History)
-    → IsWorking patience inputs coming kept mid mine made
-    → ((left : List (List ℕ)) → coming ≡ Some left → HasVisited patience left coming' mid kept' made mine' visit.Open)
-    → IsWorking patience inputs coming' kept kept' mine mine'
-works_on patience inputs coming coming' kept mid kept' mine made mine' w visits =
+    → IsWorking terms inputs coming kept mid mine made
+    → ((left : List (List ℕ)) → coming ≡ Some left → HasVisited terms left coming' mid kept' made mine' visit.Open)
+    → IsWorking terms inputs coming' kept kept' mine mine'
+works_on terms inputs coming coming' kept mid kept' mine made mine' w visits =
     let v = visits w.rest w.left in
-    step patience inputs coming' kept mid kept' mine made mine' w.taken w.rest w.conns v.0 w.calls v.1 w.split w.walk w.kept w.made v.2 v.3 v.4
+    step terms inputs coming' kept mid kept' mine made mine' w.taken w.rest w.conns v.0 w.calls v.1 w.split w.walk w.kept w.made v.2 v.3 v.4
 
 -- a worker whose host has ended
-pub works_till_close : (patience : ℕ) (inputs : List (List ℕ)) (coming coming' : Option (List (List ℕ)))
+pub works_till_close : (terms : Terms) (inputs : List (List ℕ)) (coming coming' : Option (List (List ℕ)))
     (kept mid kept' : Option (List ConnState)) (mine made mine' : Option History) (saw_close : Bool)
-    → IsWorking patience inputs coming kept mid mine made
-    → ((left : List (List ℕ)) → coming ≡ Some left → HasVisited patience left coming' mid kept' made mine' visit.Closed)
-    → saw_close ≡ true → HasWorked patience inputs coming' kept kept' mine mine' saw_close true
-works_till_close patience inputs coming coming' kept mid kept' mine made mine' saw_close w visits saw =
+    → IsWorking terms inputs coming kept mid mine made
+    → ((left : List (List ℕ)) → coming ≡ Some left → HasVisited terms left coming' mid kept' made mine' visit.Closed)
+    → saw_close ≡ true → HasWorked terms inputs coming' kept kept' mine mine' saw_close true
+works_till_close terms inputs coming coming' kept mid kept' mine made mine' saw_close w visits saw =
     let v = visits w.rest w.left in
-    stop patience inputs coming' kept mid kept' mine made mine' saw_close w.taken w.rest w.conns v.0 w.calls v.1 saw w.split w.walk w.kept w.made v.2 v.3 v.4
+    stop terms inputs coming' kept mid kept' mine made mine' saw_close w.taken w.rest w.conns v.0 w.calls v.1 saw w.split w.walk w.kept w.made v.2 v.3 v.4
 
 -- a worker at whose door no connection will come any more
-pub works_to_the_end : (patience : ℕ) (inputs : List (List ℕ)) (coming coming' : Option (List (List ℕ)))
+pub works_to_the_end : (terms : Terms) (inputs : List (List ℕ)) (coming coming' : Option (List (List ℕ)))
     (kept mid kept' : Option (List ConnState)) (mine made told mine' : Option History) (saw_close : Bool)
-    → IsWorking patience inputs coming kept mid mine made
-    → ((left : List (List ℕ)) → coming ≡ Some left → HasVisited patience left coming' mid kept' made told visit.Ended)
+    → IsWorking terms inputs coming kept mid mine made
+    → ((left : List (List ℕ)) → coming ≡ Some left → HasVisited terms left coming' mid kept' made told visit.Ended)
     → HasLeft told mine' saw_close
-    → HasWorked patience inputs coming' kept kept' mine mine' saw_close true
-works_to_the_end patience inputs coming coming' kept mid kept' mine made told mine' saw_close w visits leave =
+    → HasWorked terms inputs coming' kept kept' mine mine' saw_close true
+works_to_the_end terms inputs coming coming' kept mid kept' mine made told mine' saw_close w visits leave =
     let v = visits w.rest w.left in
-    last_ended patience inputs coming' kept mid kept' mine made told mine' saw_close leave.0 w.taken w.rest w.conns v.0 w.calls v.1 w.split w.walk w.kept w.made v.2 v.3 v.4 leave.1 leave.2 leave.3
+    last_ended terms inputs coming' kept mid kept' mine made told mine' saw_close leave.0 w.taken w.rest w.conns v.0 w.calls v.1 w.split w.walk w.kept w.made v.2 v.3 v.4 leave.1 leave.2 leave.3
 
 -- a worker whose door failed
-pub works_till_failure : (patience : ℕ) (inputs : List (List ℕ)) (coming coming' : Option (List (List ℕ)))
+pub works_till_failure : (terms : Terms) (inputs : List (List ℕ)) (coming coming' : Option (List (List ℕ)))
     (kept mid kept' : Option (List ConnState)) (mine made told mine' : Option History) (saw_close : Bool)
-    → IsWorking patience inputs coming kept mid mine made
-    → ((left : List (List ℕ)) → coming ≡ Some left → HasVisited patience left coming' mid kept' made told visit.Failed)
+    → IsWorking terms inputs coming kept mid mine made
+    → ((left : List (List ℕ)) → coming ≡ Some left → HasVisited terms left coming' mid kept' made told visit.Failed)
     → HasLeft told mine' saw_close
-    → HasWorked patience inputs coming' kept kept' mine mine' saw_close false
-works_till_failure patience inputs coming coming' kept mid kept' mine made told mine' saw_close w visits leave =
+    → HasWorked terms inputs coming' kept kept' mine mine' saw_close false
+works_till_failure terms inputs coming coming' kept mid kept' mine made told mine' saw_close w visits leave =
     let v = visits w.rest w.left in
-    last_failed patience inputs coming' kept mid kept' mine made told mine' saw_close leave.0 w.taken w.rest w.conns v.0 w.calls v.1 w.split w.walk w.kept w.made v.2 v.3 v.4 leave.1 leave.2 leave.3
+    last_failed terms inputs coming' kept mid kept' mine made told mine' saw_close leave.0 w.taken w.rest w.conns v.0 w.calls v.1 w.split w.walk w.kept w.made v.2 v.3 v.4 leave.1 leave.2 leave.3
 
 -- a look that served a connection
 pub opens_or_closes : (v : Visit) (Saw : Type 0) → (v ≡ visit.Open) ⊎ ((v ≡ visit.Closed) × Saw) → (v ≡ visit.Open) ⊎ (v ≡ visit.Closed)

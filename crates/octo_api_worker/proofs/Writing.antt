@@ -10,6 +10,7 @@ use Rattle.octo_http.specs.declared.fault.MessageFault.TheVariants.{ReadFault}
 use Rattle.octo_http.specs.declared.message.Message.{Message}
 use Rattle.octo_http.specs.Message.{Writes, Answers, IsPatient, IsSlow}
 use Rattle.octo_api_worker.specs.declared.reply.WorkerReply.{WorkerReply}
+use Rattle.octo_api_worker.specs.declared.terms.Terms.{Terms}
 use Rattle.octo_api_worker.specs.Served.{Sends, Wrote, HasCause, IsReplied, IsServed, no_message, message, AreFaultBytes, is_head, worker_bytes}
 use Rattle.std.proofs.lemmas.Option.{none-some, same_Some}
 
@@ -49,27 +50,27 @@ wrote_then (Some w) (Some now) faults faults' sent bytes held below (inr cut) =
     )
 
 -- a connection that held no message was served
-pub unread : (patience : ℕ) (input : List ℕ) (left written : Option (List ℕ)) (faults quiets : ℕ) (fault : MessageFault)
+pub unread : (terms : Terms) (input : List ℕ) (left written : Option (List ℕ)) (faults quiets : ℕ) (fault : MessageFault)
     (after : ConnState) (bytes : List ℕ)
     → ((before : List ℕ) → Some input ≡ Some before → Writes (Some []) written (Answers before left (Err fault)))
-    → IsPatient patience 0 quiets (Err fault) → (fault ≡ ReadFault → Rose 0 faults) → AreFaultBytes fault bytes
+    → IsPatient terms.patience 0 quiets (Err fault) → (fault ≡ ReadFault → Rose 0 faults) → AreFaultBytes fault bytes
     → Sends written after.written faults after.faults bytes → after.left ≡ left → after.quiets ≡ quiets → faults ≤ after.faults
-    → IsServed patience input after true []
-unread patience input left written faults quiets fault after bytes writes patient rose replied sends left_is quiets_is below =
+    → IsServed terms input after true []
+unread terms input left written faults quiets fault after bytes writes patient rose replied sends left_is quiets_is below =
     let sent = sent_of written (Answers input left (Err fault)) (writes input refl) in
     let Says : Option (List ℕ) → Type 0 = λ l. Answers input l (Err fault) sent.0 in
-    let Slow : ℕ → Type 0 = λ q. IsSlow patience 0 q fault in
+    let Slow : ℕ → Type 0 = λ q. IsSlow terms.patience 0 q fault in
     no_message fault sent.0 bytes (subst Says (sym left_is) sent.1)
     (record { failed = λ is. omega (arith, rose is, below); slow = subst Slow (sym quiets_is) patient.slow })
     replied (wrote_then written after.written faults after.faults sent.0 bytes sent.2 below sends)
 
 -- a connection that held a message was served
-pub served_message : (patience : ℕ) (input : List ℕ) (left written : Option (List ℕ)) (faults : ℕ) (m : Message) (reply : WorkerReply)
+pub served_message : (terms : Terms) (input : List ℕ) (left written : Option (List ℕ)) (faults : ℕ) (m : Message) (reply : WorkerReply)
     (is_open : Bool) (calls : History) (after : ConnState) (head_alone : Bool) → head_alone ≡ is_head m
-    → ((before : List ℕ) → Some input ≡ Some before → Writes (Some []) written (Answers before left (Ok m))) → IsReplied m reply is_open calls
+    → ((before : List ℕ) → Some input ≡ Some before → Writes (Some []) written (Answers before left (Ok m))) → IsReplied terms.origins m reply is_open calls
     → Sends written after.written faults after.faults (worker_bytes head_alone reply) → faults ≤ after.faults
-    → IsServed patience input after is_open calls
-served_message patience input left written faults m reply is_open calls after head_alone is writes replied sends below =
+    → IsServed terms input after is_open calls
+served_message terms input left written faults m reply is_open calls after head_alone is writes replied sends below =
     let Sent : Bool → Type 0 = λ alone. Sends written after.written faults after.faults (worker_bytes alone reply) in
     let sent = sent_of written (Answers input left (Ok m)) (writes input refl) in
     message m sent.0 reply is_open calls sent.1 replied

@@ -12,14 +12,15 @@ use Rattle.octo_api_requests.specs.Callers.{IsCallers}
 use Rattle.octo_api_worker.specs.Served.{IsServed}
 use Rattle.octo_api_worker.specs.declared.at_door.Visit.{Visit}
 use Rattle.octo_api_worker.specs.declared.at_door.Visit.TheVariants as visit
+use Rattle.octo_api_worker.specs.declared.terms.Terms.{Terms}
 
 -- connections that were served one after the other, by their inputs, and the calls that they led to; after the host has ended
 -- none follows
-pub data Served (patience : ℕ) : List (List ℕ) → List ConnState → Bool → History → Type 0 where
-  none_served : Served patience [] [] true []
+pub data Served (terms : Terms) : List (List ℕ) → List ConnState → Bool → History → Type 0 where
+  none_served : Served terms [] [] true []
   one_more : (inputs : List (List ℕ)) (conns : List ConnState) (calls : History) (input : List ℕ) (conn : ConnState) (is_open : Bool)
-      (more : History) → Served patience inputs conns true calls → IsServed patience input conn is_open more
-      → Served patience (inputs ++ input ∷ []) (conns ++ conn ∷ []) is_open (calls ++ more)
+      (more : History) → Served terms inputs conns true calls → IsServed terms input conn is_open more
+      → Served terms (inputs ++ input ∷ []) (conns ++ conn ∷ []) is_open (calls ++ more)
 
 -- the ask with which a worker leaves
 abbrev pub leave_ask : Ask
@@ -38,22 +39,22 @@ pub data Leaves : History → Type 0 where
   one_leave : (worker moment : ℕ) (a : Answer) → Leaves (entry.Call worker leave_ask moment a ∷ [])
 
 -- one look at the door: the inputs to come before and after, the connection that was served, and the calls
-pub data IsVisit (patience : ℕ) : List (List ℕ) → Option (List (List ℕ)) → List ConnState → History → Visit → Type 0 where
-  one_served : (input : List ℕ) (inputs : List (List ℕ)) (conn : ConnState) (calls : History) → IsServed patience input conn true calls
-      → IsVisit patience (input ∷ inputs) (Some inputs) (conn ∷ []) calls visit.Open
-  last_served : (input : List ℕ) (inputs : List (List ℕ)) (conn : ConnState) (calls : History) → IsServed patience input conn false calls
-      → IsVisit patience (input ∷ inputs) (Some inputs) (conn ∷ []) calls visit.Closed
-  none_came : (inputs : List (List ℕ)) → IsVisit patience inputs (Some inputs) [] [] visit.Open
-  host_ended : (inputs : List (List ℕ)) → IsVisit patience inputs (Some inputs) [] [] visit.Closed
-  door_ended : IsVisit patience [] (Some []) [] [] visit.Ended
-  door_failed : (inputs : List (List ℕ)) → IsVisit patience inputs (Some []) [] [] visit.Failed
+pub data IsVisit (terms : Terms) : List (List ℕ) → Option (List (List ℕ)) → List ConnState → History → Visit → Type 0 where
+  one_served : (input : List ℕ) (inputs : List (List ℕ)) (conn : ConnState) (calls : History) → IsServed terms input conn true calls
+      → IsVisit terms (input ∷ inputs) (Some inputs) (conn ∷ []) calls visit.Open
+  last_served : (input : List ℕ) (inputs : List (List ℕ)) (conn : ConnState) (calls : History) → IsServed terms input conn false calls
+      → IsVisit terms (input ∷ inputs) (Some inputs) (conn ∷ []) calls visit.Closed
+  none_came : (inputs : List (List ℕ)) → IsVisit terms inputs (Some inputs) [] [] visit.Open
+  host_ended : (inputs : List (List ℕ)) → IsVisit terms inputs (Some inputs) [] [] visit.Closed
+  door_ended : IsVisit terms [] (Some []) [] [] visit.Ended
+  door_failed : (inputs : List (List ℕ)) → IsVisit terms inputs (Some []) [] [] visit.Failed
 
 -- one look at a door that records: the inputs to come, the connections served and the asker's calls moved by that look alone
-abbrev pub HasVisited : ℕ → List (List ℕ) → Option (List (List ℕ)) → (served served' : Option (List ConnState)) → (mine mine' : Option History) → Visit
+abbrev pub HasVisited : Terms → List (List ℕ) → Option (List (List ℕ)) → (served served' : Option (List ConnState)) → (mine mine' : Option History) → Visit
     → Type 0
-HasVisited patience inputs coming served served' mine mine' v =
+HasVisited terms inputs coming served served' mine mine' v =
     (conns : List ConnState) × (calls : History)
-    × IsVisit patience inputs coming conns calls v × Adds served served' conns × Adds mine mine' calls
+    × IsVisit terms inputs coming conns calls v × Adds served served' conns × Adds mine mine' calls
 
 -- a call that a connection led to: it has a caller's request
 abbrev pub IsAsk : Entry → Type 0
@@ -89,21 +90,21 @@ still_coming true rest = rest
 still_coming false rest = []
 
 -- a worker that goes on: the first of the inputs to come were served, the rest is still to come
-pub record IsWorking (patience : ℕ) (inputs : List (List ℕ)) (coming : Option (List (List ℕ))) (served served' : Option (List ConnState))
+pub record IsWorking (terms : Terms) (inputs : List (List ℕ)) (coming : Option (List (List ℕ))) (served served' : Option (List ConnState))
     (mine mine' : Option History) : Type 0 where
   pub taken : List (List ℕ)
   pub rest : List (List ℕ)
   pub conns : List ConnState
   pub calls : History
   pub split : inputs ≡ taken ++ rest
-  pub walk : Served patience taken conns true calls
+  pub walk : Served terms taken conns true calls
   pub kept : Adds served served' conns
   pub made : Adds mine mine' calls
   pub left : coming ≡ Some rest
 
 -- what a worker did: the first of the inputs to come were served, all of them unless the host has ended or the door failed; its last
 -- call may be that with which it leaves, and only if the door has ended or failed; if it hasn't left, it has seen that the host has ended
-pub record HasWorked (patience : ℕ) (inputs : List (List ℕ)) (coming : Option (List (List ℕ))) (served served' : Option (List ConnState))
+pub record HasWorked (terms : Terms) (inputs : List (List ℕ)) (coming : Option (List (List ℕ))) (served served' : Option (List ConnState))
     (mine mine' : Option History) (saw_close held : Bool) : Type 0 where
   pub taken : List (List ℕ)
   pub rest : List (List ℕ)
@@ -112,7 +113,7 @@ pub record HasWorked (patience : ℕ) (inputs : List (List ℕ)) (coming : Optio
   pub last : History
   pub is_open : Bool
   pub split : inputs ≡ taken ++ rest
-  pub walk : Served patience taken conns is_open calls
+  pub walk : Served terms taken conns is_open calls
   pub leave : Leaves last
   pub kept : Adds served served' conns
   pub made : Adds mine mine' (calls ++ last)

@@ -8,6 +8,7 @@ ghost use Rattle.octo_api_worker.specs.Served.{IsServed, AsksOnce};
 ghost use Rattle.octo_api_worker.specs.Worked.{leave_ask, HasVisited, HasLeft, HasReturned, HasWorked, is_open};
 
 use crate::serve::serve_conn;
+use crate::terms::Terms;
 use octo_api_routes::Routes;
 use octo_asks::{Ask, Asker, Request};
 use octo_outside::{Blob, Failed};
@@ -34,10 +35,10 @@ fn look_at_door<D: Door, A: Asker>(
     routes: &Routes,
     door: &mut D,
     asker: &mut A,
-    patience: u32,
+    terms: &Terms,
 ) -> Visit
     ensures visited { (inputs : List (List ℕ)) → D.coming door.old ≡ Some inputs
-        → HasVisited patience inputs (D.coming door.new) (D.served door.old) (D.served door.new)
+        → HasVisited terms.now inputs (D.coming door.new) (D.served door.old) (D.served door.new)
         (A.mine asker.old) (A.mine asker.new) result }
     ensures once { AsksOnce (A.mine asker.old) (A.mine asker.new) }
     ensures closed { result ≡ visit.Closed → A.saw_close asker.new ≡ true }
@@ -49,7 +50,7 @@ fn look_at_door<D: Door, A: Asker>(
         return Visit::Closed;
     }
     match door.accept() {
-        Ok(Knock::Conn(conn)) => serve_and_finish(alloc, routes, door, conn, asker, patience),
+        Ok(Knock::Conn(conn)) => serve_and_finish(alloc, routes, door, conn, asker, terms),
         Ok(Knock::Quiet) => Visit::Open,
         Ok(Knock::Ended) => Visit::Ended,
         Err(Failed) => Visit::Failed,
@@ -63,12 +64,12 @@ fn serve_and_finish<D: Door, A: Asker>(
     door: &mut D,
     conn: D::Conn,
     asker: &mut A,
-    patience: u32,
+    terms: &Terms,
 ) -> Visit
     ensures served { (input : List ℕ)
         → state_of D.Conn.left D.Conn.written D.Conn.faults D.Conn.quiets conn ≡ fresh_conn input
         → (after : ConnState) × (calls : History)
-        × IsServed patience input after (is_open result) calls
+        × IsServed terms.now input after (is_open result) calls
         × Adds (D.served door.old) (D.served door.new) (after ∷ [])
         × Adds (A.mine asker.old) (A.mine asker.new) calls }
     ensures once { AsksOnce (A.mine asker.old) (A.mine asker.new) }
@@ -79,7 +80,7 @@ fn serve_and_finish<D: Door, A: Asker>(
     ensures faults { D.faults door.new ≡ D.faults door.old }
 {
     let mut conn = conn;
-    let is_open = serve_conn(alloc, routes, &mut conn, asker, patience);
+    let is_open = serve_conn(alloc, routes, &mut conn, asker, terms);
     door.finish(conn);
     if is_open { Visit::Open } else { Visit::Closed }
 }
@@ -113,11 +114,11 @@ pub fn worker<R: Wait, D: Door, A: Asker>(
     routes: &Routes,
     door: &mut D,
     asker: &mut A,
-    patience: u32,
+    terms: &Terms,
 ) -> bool
     // The connections of a door that records them are served one after the other.
     ensures served { (inputs : List (List ℕ)) → D.coming door.old ≡ Some inputs
-        → HasWorked patience inputs (D.coming door.new) (D.served door.old) (D.served door.new)
+        → HasWorked terms.now inputs (D.coming door.new) (D.served door.old) (D.served door.new)
         (A.mine asker.old) (A.mine asker.new) (A.saw_close asker.new) result }
     ensures place { A.place asker.new ≡ A.place asker.old }
 
@@ -130,7 +131,7 @@ pub fn worker<R: Wait, D: Door, A: Asker>(
     ensures failed { result ≡ false → Rose (D.faults door.old) (D.faults door.new) }
 {
     for _ in rt.forever() {
-        match look_at_door(alloc, routes, door, asker, patience) {
+        match look_at_door(alloc, routes, door, asker, terms) {
             Visit::Open => {}
             Visit::Closed => return true,
             Visit::Ended => {

@@ -1,5 +1,5 @@
 //! The reply to a message, and the call that it leads to.
-ghost use Rattle.std.specs.Prelude.{◌≡◌, Ok, IfOk, true, false};
+ghost use Rattle.std.specs.Prelude.{◌≡◌, ℕ, List, Ok, IfOk, true, false};
 ghost use Rattle.octo_outside.specs.Recorded.{Adds};
 ghost use Rattle.octo_http.specs.declared.message.Message.{Message};
 ghost use Rattle.octo_api_requests.specs.Requests.{MessageReadsAs};
@@ -7,15 +7,19 @@ ghost use Rattle.octo_api_requests.specs.Callers.{IsCallers};
 ghost use Rattle.octo_asks.specs.History.{History};
 ghost use Rattle.octo_api_routes.specs.Shown.{shown_of};
 ghost use Rattle.octo_api_page.specs.Pages.{page_of};
+ghost use Rattle.octo_api_worker.specs.Origins.{listed};
 ghost use Rattle.octo_api_worker.specs.Served.{IsReply, IsOfApi, IsReplied};
 
+use crate::origins::{direct_lines, listed, origin_lines};
+use byte_text::Name;
 use octo_api_page::{Page, page_of};
 use octo_api_refusals::{direct_bytes, out_of_memory};
 use octo_api_replies::shown_bytes;
 use octo_api_requests::request_by;
 use octo_api_routes::{Routes, Shown, shown_of};
 use octo_asks::{Answer, Ask, Asker, Closed};
-use octo_http::{HttpReply, Message};
+use octo_http::{FieldLines, HttpReply, Message};
+use octo_outside::NameList;
 use std::alloc::{AllocError, Global};
 
 // A reply that is to be written.
@@ -23,8 +27,8 @@ use std::alloc::{AllocError, Global};
 pub(crate) enum WorkerReply {
     // That of a path of the page.
     Page { page: Page },
-    // That of the REST API.
-    Api { reply: HttpReply },
+    // That of the REST API, and the fields that let pages of the message's origin read it.
+    Api { reply: HttpReply, more: FieldLines },
 }
 
 #[derive(Drop)]
@@ -44,12 +48,19 @@ fn reply_to(alloc: Global, shown: Shown, answer: Answer) -> HttpReply
     }
 }
 
-// Asks, and returns the reply to the answer.
-fn reply_to_ask<A: Asker>(alloc: Global, asker: &mut A, shown: Shown, ask: Ask) -> Replied
-    ensures replied { (message : Message) → shown ≡ shown_of message.path → IsOfApi message
-        → MessageReadsAs message (Ok ask) → IsCallers ask.request
+// Asks, and returns the reply to the answer, for pages of this origin.
+fn reply_to_ask<A: Asker>(
+    alloc: Global,
+    asker: &mut A,
+    shown: Shown,
+    origin: &Option<Name>,
+    ask: Ask,
+) -> Replied
+    ensures replied { (origins : List (List ℕ)) → (message : Message)
+        → shown ≡ shown_of message.path → origin.now ≡ listed origins message.origin
+        → IsOfApi message → MessageReadsAs message (Ok ask) → IsCallers ask.request
         → (calls : History) × Adds (A.mine asker.old) (A.mine asker.new) calls
-        × IsReplied message result.reply result.is_open calls }
+        × IsReplied origins message result.reply result.is_open calls }
     ensures closed { result.is_open ≡ false → A.saw_close asker.new ≡ true }
     ensures seen { A.saw_close asker.old ≡ true → A.saw_close asker.new ≡ true }
     ensures place { A.place asker.new ≡ A.place asker.old }
@@ -58,38 +69,44 @@ fn reply_to_ask<A: Asker>(alloc: Global, asker: &mut A, shown: Shown, ask: Ask) 
         Ok(answer) => Replied {
             reply: WorkerReply::Api {
                 reply: reply_to(alloc, shown, answer),
+                more: origin_lines(origin),
             },
             is_open: true,
         },
         Err(Closed) => Replied {
             reply: WorkerReply::Api {
                 reply: reply_to(alloc, shown, Answer::Closed),
+                more: origin_lines(origin),
             },
             is_open: false,
         },
     }
 }
 
-// Asks what a message of the REST API says, if it says a request, and returns the reply. The path shows this of an answer.
+// Asks what a message of the REST API says, if it says a request, and returns the reply. The path shows this of an answer,
+// and pages of this origin may read it.
 fn reply_to_shown<A: Asker>(
     alloc: Global,
     routes: &Routes,
     asker: &mut A,
     shown: Shown,
+    origin: &Option<Name>,
     message: Message,
 ) -> Replied
-    ensures replied { shown ≡ shown_of message.path → IsOfApi message → (calls : History)
+    ensures replied { (origins : List (List ℕ)) → shown ≡ shown_of message.path
+        → origin.now ≡ listed origins message.origin → IsOfApi message → (calls : History)
         × Adds (A.mine asker.old) (A.mine asker.new) calls
-        × IsReplied message result.reply result.is_open calls }
+        × IsReplied origins message result.reply result.is_open calls }
     ensures closed { result.is_open ≡ false → A.saw_close asker.new ≡ true }
     ensures seen { A.saw_close asker.old ≡ true → A.saw_close asker.new ≡ true }
     ensures place { A.place asker.new ≡ A.place asker.old }
 {
     match request_by(alloc, routes, message) {
-        Ok(ask) => reply_to_ask(alloc, asker, shown, ask),
+        Ok(ask) => reply_to_ask(alloc, asker, shown, origin, ask),
         Err(direct) => Replied {
             reply: WorkerReply::Api {
                 reply: direct_bytes(alloc, &direct),
+                more: direct_lines(origin, &direct),
             },
             is_open: true,
         },
@@ -107,21 +124,24 @@ fn shown_for(alloc: Global, routes: &Routes, message: &Message) -> Result<Shown,
 fn reply_to_request<A: Asker>(
     alloc: Global,
     routes: &Routes,
+    origins: &NameList,
     asker: &mut A,
     message: Message,
 ) -> Replied
     ensures replied { IsOfApi message → (calls : History)
         × Adds (A.mine asker.old) (A.mine asker.new) calls
-        × IsReplied message result.reply result.is_open calls }
+        × IsReplied origins.now message result.reply result.is_open calls }
     ensures closed { result.is_open ≡ false → A.saw_close asker.new ≡ true }
     ensures seen { A.saw_close asker.old ≡ true → A.saw_close asker.new ≡ true }
     ensures place { A.place asker.new ≡ A.place asker.old }
 {
+    let origin = listed(origins, &message);
     match shown_for(alloc, routes, &message) {
-        Ok(shown) => reply_to_shown(alloc, routes, asker, shown, message),
+        Ok(shown) => reply_to_shown(alloc, routes, asker, shown, &origin, message),
         Err(AllocError) => Replied {
             reply: WorkerReply::Api {
                 reply: out_of_memory(alloc),
+                more: origin_lines(&origin),
             },
             is_open: true,
         },
@@ -139,11 +159,12 @@ fn page_for(message: &Message) -> Option<Page>
 pub(crate) fn reply_to_message<A: Asker>(
     alloc: Global,
     routes: &Routes,
+    origins: &NameList,
     asker: &mut A,
     message: Message,
 ) -> Replied
     ensures replied { (calls : History) × Adds (A.mine asker.old) (A.mine asker.new) calls
-        × IsReplied message result.reply result.is_open calls }
+        × IsReplied origins.now message result.reply result.is_open calls }
     ensures closed { result.is_open ≡ false → A.saw_close asker.new ≡ true }
     ensures seen { A.saw_close asker.old ≡ true → A.saw_close asker.new ≡ true }
     ensures place { A.place asker.new ≡ A.place asker.old }
@@ -153,6 +174,6 @@ pub(crate) fn reply_to_message<A: Asker>(
             reply: WorkerReply::Page { page },
             is_open: true,
         },
-        None => reply_to_request(alloc, routes, asker, message),
+        None => reply_to_request(alloc, routes, origins, asker, message),
     }
 }

@@ -1,40 +1,45 @@
 //! One connection: a message, and its reply.
 ghost use Rattle.std.specs.Prelude.{◌≡◌, ◌≤◌, ℕ, List, true, false};
 ghost use Rattle.octo_outside_doors.specs.Doors.{state_of};
-ghost use Rattle.octo_http.specs.Reply.{reply_head, reply_bytes};
+ghost use Rattle.octo_http.specs.Reply.{with_fields, reply_head, reply_bytes};
 ghost use Rattle.octo_api_worker.specs.Served.{Sends, HasServed, AsksOnce, AreFaultBytes, is_head, worker_bytes};
 
 use crate::reply::{WorkerReply, reply_to_message};
+use crate::terms::Terms;
 use octo_api_page::page_bytes;
 use octo_api_refusals::fault_bytes;
 use octo_api_routes::Routes;
 use octo_asks::Asker;
-use octo_http::{HttpReply, Message, MessageFault, read_message, write_head, write_reply};
+use octo_http::{
+    FieldLines, HttpReply, Message, MessageFault, read_message, write_head, write_reply,
+};
 use octo_outside::{Conn, Failed, send_all};
 use std::alloc::Global;
 
-// Writes a reply, and ignores a failure: the connection counts it, and nobody is left who could be answered.
-fn write_reply_or_ignore<C: Conn>(conn: &mut C, reply: &HttpReply)
+// Writes a reply with more fields, and ignores a failure: the connection counts it, and nobody is left who could be answered.
+fn write_reply_or_ignore<C: Conn>(conn: &mut C, reply: &HttpReply, more: &FieldLines)
     ensures written { Sends (C.written conn.old) (C.written conn.new)
-        (C.faults conn.old) (C.faults conn.new) (reply_bytes reply.now) }
+        (C.faults conn.old) (C.faults conn.new)
+        (reply_bytes (with_fields more.now.items reply.now)) }
     ensures left { C.left conn.new ≡ C.left conn.old }
     ensures quiets { C.quiets conn.new ≡ C.quiets conn.old }
     ensures counted { C.faults conn.old ≤ C.faults conn.new }
 {
-    match write_reply(conn, reply) {
+    match write_reply(conn, reply, more) {
         Ok(()) | Err(Failed) => {}
     }
 }
 
-// Writes a reply without its body, and ignores a failure too.
-fn write_head_or_ignore<C: Conn>(conn: &mut C, reply: &HttpReply)
+// Writes a reply with more fields and without its body, and ignores a failure too.
+fn write_head_or_ignore<C: Conn>(conn: &mut C, reply: &HttpReply, more: &FieldLines)
     ensures written { Sends (C.written conn.old) (C.written conn.new)
-        (C.faults conn.old) (C.faults conn.new) (reply_head reply.now) }
+        (C.faults conn.old) (C.faults conn.new)
+        (reply_head (with_fields more.now.items reply.now)) }
     ensures left { C.left conn.new ≡ C.left conn.old }
     ensures quiets { C.quiets conn.new ≡ C.quiets conn.old }
     ensures counted { C.faults conn.old ≤ C.faults conn.new }
 {
-    match write_head(conn, reply) {
+    match write_head(conn, reply, more) {
         Ok(()) | Err(Failed) => {}
     }
 }
@@ -60,18 +65,18 @@ fn is_head(message: &Message) -> bool
 }
 
 // Writes the reply of the REST API.
-fn write_api_reply<C: Conn>(conn: &mut C, reply: &HttpReply, head_alone: bool)
+fn write_api_reply<C: Conn>(conn: &mut C, reply: &HttpReply, more: &FieldLines, head_alone: bool)
     ensures written { Sends (C.written conn.old) (C.written conn.new) (C.faults conn.old)
-        (C.faults conn.new) (worker_bytes head_alone (WorkerReply.Api reply.now)) }
+        (C.faults conn.new) (worker_bytes head_alone (WorkerReply.Api reply.now more.now)) }
     ensures left { C.left conn.new ≡ C.left conn.old }
     ensures quiets { C.quiets conn.new ≡ C.quiets conn.old }
     ensures counted { C.faults conn.old ≤ C.faults conn.new }
 {
     if head_alone {
-        write_head_or_ignore(conn, reply);
+        write_head_or_ignore(conn, reply, more);
         return;
     }
-    write_reply_or_ignore(conn, reply);
+    write_reply_or_ignore(conn, reply, more);
 }
 
 // Writes the reply to a message, without the body if its head alone is asked for.
@@ -84,7 +89,7 @@ fn write_worker_reply<C: Conn>(conn: &mut C, reply: &WorkerReply, head_alone: bo
 {
     match reply {
         WorkerReply::Page { page } => send_or_ignore(conn, page_bytes(*page)),
-        WorkerReply::Api { reply } => write_api_reply(conn, reply, head_alone),
+        WorkerReply::Api { reply, more } => write_api_reply(conn, reply, more, head_alone),
     }
 }
 
@@ -98,7 +103,7 @@ fn refuse<C: Conn>(alloc: Global, conn: &mut C, fault: &MessageFault)
     ensures counted { C.faults conn.old ≤ C.faults conn.new }
 {
     match fault_bytes(alloc, fault) {
-        Some(reply) => write_reply_or_ignore(conn, &reply),
+        Some(reply) => write_reply_or_ignore(conn, &reply, &FieldLines::new()),
         None => {}
     }
 }
@@ -106,16 +111,16 @@ fn refuse<C: Conn>(alloc: Global, conn: &mut C, fault: &MessageFault)
 /// Reads one message of a connection, asks what it says and writes the reply. Returns whether the host hasn't ended. The page for
 /// browsers is shown without asking.
 ///
-/// It waits through at most `patience` quiet reads. If memory runs out, the reply to a request is 507, and that to a refused
+/// It waits through as many quiet reads as the terms say. If memory runs out, the reply to a request is 507, and that to a refused
 /// message or a fault has no body. The reply to a HEAD of the REST API has no body either.
 pub fn serve_conn<C: Conn, A: Asker>(
     alloc: Global,
     routes: &Routes,
     conn: &mut C,
     asker: &mut A,
-    patience: u32,
+    terms: &Terms,
 ) -> bool
-    ensures served { HasServed patience (state_of C.left C.written C.faults C.quiets conn.old)
+    ensures served { HasServed terms.now (state_of C.left C.written C.faults C.quiets conn.old)
         (state_of C.left C.written C.faults C.quiets conn.new)
         (A.mine asker.old) (A.mine asker.new) result }
 
@@ -127,10 +132,10 @@ pub fn serve_conn<C: Conn, A: Asker>(
     ensures seen { A.saw_close asker.old ≡ true → A.saw_close asker.new ≡ true }
     ensures place { A.place asker.new ≡ A.place asker.old }
 {
-    match read_message(alloc, conn, patience) {
+    match read_message(alloc, conn, terms.patience) {
         Ok(message) => {
             let head_alone = is_head(&message);
-            let replied = reply_to_message(alloc, routes, asker, message);
+            let replied = reply_to_message(alloc, routes, &terms.origins, asker, message);
             write_worker_reply(conn, &replied.reply, head_alone);
             replied.is_open
         }

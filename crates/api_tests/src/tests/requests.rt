@@ -34,6 +34,7 @@ fn message(
         method,
         path: Blob::from_slice(alloc, path.as_bytes())?,
         key: Some(Blob::from_slice(alloc, b"rootxkeyx0000000")?),
+        origin: None,
         kind: Some(Blob::from_slice(alloc, kind.as_bytes())?),
         sized: true,
         encoded: false,

@@ -5,6 +5,7 @@ ghost use Rattle.octo_outside_doors.specs.Memory.{IsUntouched};
 
 mod hostile;
 mod methods;
+mod origins;
 mod page;
 mod shown;
 
@@ -13,9 +14,9 @@ use byte_text::Name;
 use job_desk::State;
 use octo_access::GroupNames;
 use octo_api_routes::Routes;
-use octo_api_worker::{serve_conn, worker};
+use octo_api_worker::{Terms, serve_conn, worker};
 use octo_asks::{Answer, Ask, Asker, Closed, Request, ShownHeat};
-use octo_outside::{CallList, MemoryConn, calls_of};
+use octo_outside::{CallList, MemoryConn, NameList, calls_of};
 use octo_outside_doors::{ConnList, MemoryDoor};
 use std::alloc::{AllocError, Global};
 use std::process::Abort;
@@ -39,6 +40,14 @@ impl Host {
             left: 0,
             saw_close: false,
         }
+    }
+}
+
+// Three reads may be quiet, and no page of another origin may read replies.
+fn terms(alloc: Global) -> Terms {
+    Terms {
+        patience: 3,
+        origins: NameList::new(alloc),
     }
 }
 
@@ -166,7 +175,7 @@ fn left_by(
 ) -> Result<(bool, Vec<u8>), AllocError> {
     let mut door = door;
     let routes = Routes::new(alloc)?;
-    let holds = worker(rt, alloc, &routes, &mut door, host, 3);
+    let holds = worker(rt, alloc, &routes, &mut door, host, &terms(alloc));
     Ok((holds, statuses(alloc, &door)?))
 }
 
@@ -269,7 +278,7 @@ fn serve_upload(rt: &(impl Wait + Abort), alloc: Global, number: u64) -> Result<
     let mut door = upload_door(alloc, number)?;
     let mut host = Host::open_for(10);
     let routes = Routes::new(alloc)?;
-    let holds = worker(rt, alloc, &routes, &mut door, &mut host, 3);
+    let holds = worker(rt, alloc, &routes, &mut door, &mut host, &terms(alloc));
     assert_eq!(rt; (holds, host.left), (true, 1));
     Ok(door)
 }
@@ -304,7 +313,7 @@ fn each_call_of_an_upload_failing(rt: HostRuntime) -> Result<(), Fail> {
 // Whether a message is replied to.
 fn serves(alloc: Global, routes: &Routes, host: &mut Host) -> Result<bool, AllocError> {
     let mut conn = conn_of(alloc, VERSION)?;
-    let is_open = serve_conn(alloc, routes, &mut conn, host, 3);
+    let is_open = serve_conn(alloc, routes, &mut conn, host, &terms(alloc));
     let written = conn.written().unwrap_or(b"");
     Ok(is_open && written.get(9..12).unwrap_or(b"-") == b"200".as_slice())
 }

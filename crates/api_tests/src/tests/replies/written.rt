@@ -3,12 +3,12 @@ use super::*;
 use crate::tests::conn_of;
 use octo_api_refusals::{direct_bytes, fault_bytes};
 use octo_api_routes::{BodyFault, Direct, MediaFault, Member, Methods};
-use octo_http::{HttpReply, MessageFault, write_reply};
+use octo_http::{FieldLines, HttpReply, MessageFault, write_reply};
 
 // Whether a reply puts these bytes on a connection.
 fn is_written(alloc: Global, reply: &HttpReply, bytes: &str) -> Result<bool, AllocError> {
     let mut conn = conn_of(alloc, b"")?;
-    let is_sent = write_reply(&mut conn, reply).is_ok();
+    let is_sent = write_reply(&mut conn, reply, &FieldLines::new()).is_ok();
     Ok(is_sent && conn.written() == Some(bytes.as_bytes()))
 }
 

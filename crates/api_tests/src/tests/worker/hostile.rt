@@ -1,6 +1,6 @@
 //! Malicious inputs by their names, and a request that is cut at each of its places, as a worker replies to them.
 use super::super::conn_of;
-use super::{Host, UPLOAD};
+use super::{Host, UPLOAD, terms};
 use octo_api_routes::Routes;
 use octo_api_worker::serve_conn;
 use octo_outside::Blob;
@@ -114,7 +114,13 @@ fn input_of(alloc: Global, row: &Row) -> Result<Blob, AllocError> {
 fn replies(alloc: Global, input: &[u8], status: &str, end: &str) -> Result<bool, AllocError> {
     let mut conn = conn_of(alloc, input)?;
     let mut host = Host::open_for(10);
-    let is_open = serve_conn(alloc, &Routes::new(alloc)?, &mut conn, &mut host, 3);
+    let is_open = serve_conn(
+        alloc,
+        &Routes::new(alloc)?,
+        &mut conn,
+        &mut host,
+        &terms(alloc),
+    );
     let written = conn.written().unwrap_or(b"");
     let has_status = written.get(9..12) == Some(status.as_bytes());
     Ok(is_open && has_status && written.ends_with(end.as_bytes()))
@@ -139,7 +145,13 @@ fn malicious(rt: HostRuntime) -> Result<(), Fail> {
 fn is_silent(alloc: Global, input: &[u8]) -> Result<bool, AllocError> {
     let mut conn = conn_of(alloc, input)?;
     let mut host = Host::open_for(10);
-    let is_open = serve_conn(alloc, &Routes::new(alloc)?, &mut conn, &mut host, 3);
+    let is_open = serve_conn(
+        alloc,
+        &Routes::new(alloc)?,
+        &mut conn,
+        &mut host,
+        &terms(alloc),
+    );
     let written = conn.written().unwrap_or(b"none");
     let at_most = b"HTTP/1.1 100 Continue\r\n\r\n".starts_with(written);
     Ok(is_open && at_most && host.answered == 0)

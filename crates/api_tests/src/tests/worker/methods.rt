@@ -1,6 +1,6 @@
 //! The replies to HEAD and OPTIONS, as a worker writes them.
 use super::super::conn_of;
-use super::Host;
+use super::{Host, terms};
 use octo_api_routes::Routes;
 use octo_api_worker::serve_conn;
 use std::alloc::{AllocError, Global};
@@ -21,7 +21,13 @@ const METHODS: &[u8] =
 fn asks_for(alloc: Global, input: &[u8], reply: &[u8]) -> Result<Option<u32>, AllocError> {
     let mut conn = conn_of(alloc, input)?;
     let mut host = Host::open_for(10);
-    let is_open = serve_conn(alloc, &Routes::new(alloc)?, &mut conn, &mut host, 3);
+    let is_open = serve_conn(
+        alloc,
+        &Routes::new(alloc)?,
+        &mut conn,
+        &mut host,
+        &terms(alloc),
+    );
     if is_open && conn.written() == Some(reply) {
         return Ok(Some(host.answered));
     }

@@ -1,6 +1,6 @@
 //! The page for browsers: a worker shows it without asking.
 use super::super::conn_of;
-use super::Host;
+use super::{Host, terms};
 use octo_api_routes::Routes;
 use octo_api_worker::serve_conn;
 use std::alloc::{AllocError, Global};
@@ -21,7 +21,13 @@ const BAD_METHOD: &[u8] = b"HTTP/1.1 405 Method Not Allowed\r\nConnection: close
 fn shows(alloc: Global, input: &[u8], begin: &[u8], end: &[u8]) -> Result<bool, AllocError> {
     let mut conn = conn_of(alloc, input)?;
     let mut host = Host::open_for(0);
-    let is_open = serve_conn(alloc, &Routes::new(alloc)?, &mut conn, &mut host, 3);
+    let is_open = serve_conn(
+        alloc,
+        &Routes::new(alloc)?,
+        &mut conn,
+        &mut host,
+        &terms(alloc),
+    );
     let written = conn.written().unwrap_or(b"");
     Ok(is_open && written.starts_with(begin) && written.ends_with(end))
 }

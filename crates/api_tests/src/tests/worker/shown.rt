@@ -1,6 +1,6 @@
 //! What replies show of an answer by their paths. The texts have the members that OctoPrint's manual names.
 use super::super::conn_of;
-use super::Host;
+use super::{Host, terms};
 use octo_api_routes::Routes;
 use octo_api_worker::serve_conn;
 use octo_outside::Blob;
@@ -60,7 +60,13 @@ fn shows(alloc: Global, path: &str, body: &str) -> Result<bool, AllocError> {
     input.append(b" HTTP/1.1\r\n\r\n")?;
     let mut conn = conn_of(alloc, input.as_slice())?;
     let mut host = Host::open_for(10);
-    let is_open = serve_conn(alloc, &Routes::new(alloc)?, &mut conn, &mut host, 3);
+    let is_open = serve_conn(
+        alloc,
+        &Routes::new(alloc)?,
+        &mut conn,
+        &mut host,
+        &terms(alloc),
+    );
     Ok(is_open && conn.written().unwrap_or(b"").ends_with(body.as_bytes()))
 }
 
@@ -89,7 +95,13 @@ const LOGOUT: &[u8] = b"POST /api/logout HTTP/1.1\r\nContent-Length: 0\r\n\r\n";
 fn replies(alloc: Global, input: &[u8], status: &[u8], body: &[u8]) -> Result<bool, AllocError> {
     let mut conn = conn_of(alloc, input)?;
     let mut host = Host::open_for(10);
-    let is_open = serve_conn(alloc, &Routes::new(alloc)?, &mut conn, &mut host, 3);
+    let is_open = serve_conn(
+        alloc,
+        &Routes::new(alloc)?,
+        &mut conn,
+        &mut host,
+        &terms(alloc),
+    );
     let written = conn.written().unwrap_or(b"");
     Ok(is_open && written.get(9..12) == Some(status) && written.ends_with(body))
 }

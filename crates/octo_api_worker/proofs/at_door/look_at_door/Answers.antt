@@ -10,16 +10,16 @@ use Rattle.octo_api_worker.proofs.at_door.look_at_door.Goals as goal
 
 pub returns-then-closed-clause-visited : goal.returns-then-closed-clause-visited
 returns-then-closed-clause-visited g c inputs coming =
-    visit_closed c.args.patience inputs _ _ _ _ _ coming refl c.closed.ensures.mine
+    visit_closed c.args.terms.now inputs _ _ _ _ _ coming refl c.closed.ensures.mine
 
 pub returns-in-Ok-Conn-clause-visited : goal.returns-in-Ok-Conn-clause-visited
 returns-in-Ok-Conn-clause-visited g c inputs coming =
     let Came : Option (List (List ℕ)) → Type 0 = λ was. IfSome was (λ all. Comes (state_of g.D.Conn.Conn.left g.D.Conn.Conn.written g.D.Conn.Conn.faults g.D.Conn.Conn.quiets) all c.in-Ok-Conn.field-0 (g.D.Door.coming c.accept.new.self)) in
     let Knocks : Knock g.row.D-Conn.Denot → Type 0 = λ k. Comes (state_of g.D.Conn.Conn.left g.D.Conn.Conn.written g.D.Conn.Conn.faults g.D.Conn.Conn.quiets) inputs k (g.D.Door.coming c.accept.new.self) in
-    let From : Option History → Type 0 = λ mine. HasVisited c.args.patience inputs (g.D.Door.coming c.serve_and_finish.new.door) (g.D.Door.served c.args.door.now) (g.D.Door.served c.serve_and_finish.new.door) mine (g.A.Asker.mine c.serve_and_finish.new.asker) c.serve_and_finish.result in
-    let Kept : Option (List ConnState) → Type 0 = λ kept. HasVisited c.args.patience inputs (g.D.Door.coming c.serve_and_finish.new.door) kept (g.D.Door.served c.serve_and_finish.new.door) (g.A.Asker.mine c.closed.new.self) (g.A.Asker.mine c.serve_and_finish.new.asker) c.serve_and_finish.result in
+    let From : Option History → Type 0 = λ mine. HasVisited c.args.terms.now inputs (g.D.Door.coming c.serve_and_finish.new.door) (g.D.Door.served c.args.door.now) (g.D.Door.served c.serve_and_finish.new.door) mine (g.A.Asker.mine c.serve_and_finish.new.asker) c.serve_and_finish.result in
+    let Kept : Option (List ConnState) → Type 0 = λ kept. HasVisited c.args.terms.now inputs (g.D.Door.coming c.serve_and_finish.new.door) kept (g.D.Door.served c.serve_and_finish.new.door) (g.A.Asker.mine c.closed.new.self) (g.A.Asker.mine c.serve_and_finish.new.asker) c.serve_and_finish.result in
     subst From c.closed.ensures.mine (subst Kept c.in-Ok-Conn.ensures.served
-    (visit_served (state_of g.D.Conn.Conn.left g.D.Conn.Conn.written g.D.Conn.Conn.faults g.D.Conn.Conn.quiets) c.args.patience c.in-Ok-Conn.conn inputs
+    (visit_served (state_of g.D.Conn.Conn.left g.D.Conn.Conn.written g.D.Conn.Conn.faults g.D.Conn.Conn.quiets) c.args.terms.now c.in-Ok-Conn.conn inputs
     (g.D.Door.coming c.accept.new.self) (g.D.Door.coming c.serve_and_finish.new.door) _ _ _ _ c.serve_and_finish.result
     (subst Knocks c.in-Ok-Conn.field-0-is (subst Came coming c.in-Ok-Conn.ensures.ok)) c.serve_and_finish.ensures.coming (opens_or_closes _ _ c.serve_and_finish.ensures.either) c.serve_and_finish.ensures.served))
 
@@ -27,20 +27,20 @@ pub returns-in-Ok-Quiet-clause-visited : goal.returns-in-Ok-Quiet-clause-visited
 returns-in-Ok-Quiet-clause-visited g c inputs coming =
     let Came : Option (List (List ℕ)) → Type 0 = λ was. IfSome was (λ all. Comes (state_of g.D.Conn.Conn.left g.D.Conn.Conn.written g.D.Conn.Conn.faults g.D.Conn.Conn.quiets) all c.in-Ok-Quiet.field-0 (g.D.Door.coming c.accept.new.self)) in
     let Knocks : Knock g.row.D-Conn.Denot → Type 0 = λ k. Comes (state_of g.D.Conn.Conn.left g.D.Conn.Conn.written g.D.Conn.Conn.faults g.D.Conn.Conn.quiets) inputs k (g.D.Door.coming c.accept.new.self) in
-    visit_quiet (state_of g.D.Conn.Conn.left g.D.Conn.Conn.written g.D.Conn.Conn.faults g.D.Conn.Conn.quiets) c.args.patience inputs (g.D.Door.coming c.accept.new.self) _ _ _ _
+    visit_quiet (state_of g.D.Conn.Conn.left g.D.Conn.Conn.written g.D.Conn.Conn.faults g.D.Conn.Conn.quiets) c.args.terms.now inputs (g.D.Door.coming c.accept.new.self) _ _ _ _
     (subst Knocks c.in-Ok-Quiet.field-0-is (subst Came coming c.in-Ok-Quiet.ensures.ok)) c.in-Ok-Quiet.ensures.served c.closed.ensures.mine
 
 pub returns-in-Ok-Ended-clause-visited : goal.returns-in-Ok-Ended-clause-visited
 returns-in-Ok-Ended-clause-visited g c inputs coming =
     let Came : Option (List (List ℕ)) → Type 0 = λ was. IfSome was (λ all. Comes (state_of g.D.Conn.Conn.left g.D.Conn.Conn.written g.D.Conn.Conn.faults g.D.Conn.Conn.quiets) all c.in-Ok-Ended.field-0 (g.D.Door.coming c.accept.new.self)) in
     let Knocks : Knock g.row.D-Conn.Denot → Type 0 = λ k. Comes (state_of g.D.Conn.Conn.left g.D.Conn.Conn.written g.D.Conn.Conn.faults g.D.Conn.Conn.quiets) inputs k (g.D.Door.coming c.accept.new.self) in
-    visit_ended (state_of g.D.Conn.Conn.left g.D.Conn.Conn.written g.D.Conn.Conn.faults g.D.Conn.Conn.quiets) c.args.patience inputs (g.D.Door.coming c.accept.new.self) _ _ _ _
+    visit_ended (state_of g.D.Conn.Conn.left g.D.Conn.Conn.written g.D.Conn.Conn.faults g.D.Conn.Conn.quiets) c.args.terms.now inputs (g.D.Door.coming c.accept.new.self) _ _ _ _
     (subst Knocks c.in-Ok-Ended.field-0-is (subst Came coming c.in-Ok-Ended.ensures.ok)) c.in-Ok-Ended.ensures.served c.closed.ensures.mine
 
 pub returns-in-Err-clause-visited : goal.returns-in-Err-clause-visited
 returns-in-Err-clause-visited g c inputs coming =
     let Came : Option (List (List ℕ)) → Type 0 = λ was. IfSome was (λ _. g.D.Door.coming c.accept.new.self ≡ Some []) in
-    visit_failed c.args.patience inputs (g.D.Door.coming c.accept.new.self) _ _ _ _ (subst Came coming c.in-Err.ensures.err) c.in-Err.ensures.served c.closed.ensures.mine
+    visit_failed c.args.terms.now inputs (g.D.Door.coming c.accept.new.self) _ _ _ _ (subst Came coming c.in-Err.ensures.err) c.in-Err.ensures.served c.closed.ensures.mine
 
 pub returns-then-closed-clause-once : goal.returns-then-closed-clause-once
 returns-then-closed-clause-once g c = once_none _ _ c.closed.ensures.mine

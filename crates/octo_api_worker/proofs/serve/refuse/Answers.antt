@@ -1,6 +1,7 @@
-use Rattle.std.proofs.Common.{[], Some, None, inl, refl}
+use Rattle.std.proofs.Common.{ℕ, List, [], Some, None, inl, refl, subst}
+use Rattle.octo_http.specs.Reply.{with_fields, reply_bytes}
 use Rattle.octo_outside.proofs.Recorded.{adds_none}
-use Rattle.octo_http.specs.Reply.{reply_bytes}
+use Rattle.octo_api_worker.specs.Served.{Sends}
 use Rattle.octo_api_worker.proofs.serve.refuse.Goals as goal
 
 pub returns-in-Some-clause-written : goal.returns-in-Some-clause-written

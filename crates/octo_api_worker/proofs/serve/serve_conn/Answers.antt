@@ -16,7 +16,7 @@ returns-in-Ok-clause-served g c input new =
     let At : Option (List ℕ) → Type 0 = λ was. (before : List ℕ) → Some input ≡ Some before → Writes was (g.C.Conn.written mid) (Answers before (g.C.Conn.left mid) (Ok c.in-Ok.message)) in (
       replied.0,
       replied.1,
-      served_message c.args.patience input (g.C.Conn.left mid) (g.C.Conn.written mid) (g.C.Conn.faults mid) c.in-Ok.message
+      served_message c.args.terms.now input (g.C.Conn.left mid) (g.C.Conn.written mid) (g.C.Conn.faults mid) c.in-Ok.message
           c.reply_to_message-replied.result.reply c.reply_to_message-replied.result.is_open replied.0
           (state_of g.C.Conn.left g.C.Conn.written g.C.Conn.faults g.C.Conn.quiets c.write_worker_reply.new.conn) c.is_head-head_alone.result c.is_head-head_alone.ensures
           (subst At (ap (λ (s : ConnState). s.written) new) (λ before e. c.in-Ok.ensures.answer before (ap (λ (s : ConnState). s.left) new ∙ e)))
@@ -27,11 +27,11 @@ pub returns-in-Err-clause-served : goal.returns-in-Err-clause-served
 returns-in-Err-clause-served g c input new =
     let mid = c.read_message.new.conn in
     let At : Option (List ℕ) → Type 0 = λ was. (before : List ℕ) → Some input ≡ Some before → Writes was (g.C.Conn.written mid) (Answers before (g.C.Conn.left mid) (Err c.in-Err.fault)) in
-    let Patient : ℕ → Type 0 = λ was. IsPatient c.args.patience was (g.C.Conn.quiets mid) (Err c.in-Err.fault) in
+    let Patient : ℕ → Type 0 = λ was. IsPatient c.args.terms.now.patience was (g.C.Conn.quiets mid) (Err c.in-Err.fault) in
     let Rises : ℕ → Type 0 = λ was. Rose was (g.C.Conn.faults mid) in (
       [],
       adds_none (g.A.Asker.mine c.args.asker.now),
-      unread c.args.patience input (g.C.Conn.left mid) (g.C.Conn.written mid) (g.C.Conn.faults mid) (g.C.Conn.quiets mid) c.in-Err.fault
+      unread c.args.terms.now input (g.C.Conn.left mid) (g.C.Conn.written mid) (g.C.Conn.faults mid) (g.C.Conn.quiets mid) c.in-Err.fault
           (state_of g.C.Conn.left g.C.Conn.written g.C.Conn.faults g.C.Conn.quiets c.refuse.new.conn) c.refuse.ensures.written.0
           (subst At (ap (λ (s : ConnState). s.written) new) (λ before e. c.in-Err.ensures.answer before (ap (λ (s : ConnState). s.left) new ∙ e)))
           (subst Patient (ap (λ (s : ConnState). s.quiets) new) c.in-Err.ensures.patient)
@@ -40,7 +40,7 @@ returns-in-Err-clause-served g c input new =
     )
 
 pub returns-in-Ok-clause-once : goal.returns-in-Ok-clause-once
-returns-in-Ok-clause-once g c = let replied = c.reply_to_message-replied.ensures.replied in (replied.0, leads_to _ _ _ _ replied.2, replied.1)
+returns-in-Ok-clause-once g c = let replied = c.reply_to_message-replied.ensures.replied in (replied.0, leads_to _ _ _ _ _ replied.2, replied.1)
 
 pub returns-in-Err-clause-once : goal.returns-in-Err-clause-once
 returns-in-Err-clause-once g c = ([], no_call, adds_none (g.A.Asker.mine c.args.asker.now))
