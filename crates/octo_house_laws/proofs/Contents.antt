@@ -8,8 +8,8 @@ use Rattle.octo_keeper.specs.declared.shelf.ShelfFile.{ShelfFile}
 use Rattle.octo_asks.specs.History.{History}
 use Rattle.octo_settings.specs.Sound.{IsSettings}
 use Rattle.octo_settings.specs.declared.settings.Settings.{Settings}
-use Rattle.octo_house_contents_proof.specs.Contents.{with_files, EachOver, LegalOver}
-use Rattle.octo_house_contents_proof.proofs.Led.{each_so}
+use Rattle.octo_house_contents.specs.Contents.{with_files, EachOver, LegalOver}
+use Rattle.octo_house_contents.proofs.Led.{each_so}
 use Rattle.octo_house_rules.specs.Issued.{lines_at, issued_in}
 use Rattle.octo_house_rules.specs.Legal.{Standing, IsLegal, after_entry}
 use Rattle.octo_house_laws.specs.Calls.{IsPermittedEntry, IsEntryOnce}

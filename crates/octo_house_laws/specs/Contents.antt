@@ -5,7 +5,7 @@ use Rattle.octo_keeper.specs.declared.shelf.ShelfFile.{ShelfFile}
 use Rattle.octo_asks.specs.History.{History}
 use Rattle.octo_settings.specs.Sound.{IsSettings}
 use Rattle.octo_settings.specs.declared.settings.Settings.{Settings}
-use Rattle.octo_house_contents_proof.specs.Contents.{EachOver, LegalOver}
+use Rattle.octo_house_contents.specs.Contents.{EachOver, LegalOver}
 use Rattle.octo_house_rules.specs.Legal.{Standing}
 use Rattle.octo_house_laws.specs.Calls.{IsPermittedEntry, IsEntryOnce}
 use Rattle.octo_house_laws.specs.Limits.{IssuesCoolLines}

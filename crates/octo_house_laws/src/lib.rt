@@ -10,6 +10,5 @@ pub use laws::{
     every_done_record_has_a_whole_course, every_history_keeps_laws_over_contents,
     every_host_keeps_the_laws, every_line_is_within_limits,
     every_line_of_read_settings_is_within_limits, every_line_over_contents_is_within_limits,
-    every_print_follows_a_course,
-    every_put_is_made_once,
+    every_print_follows_a_course, every_put_is_made_once,
 };

@@ -9,7 +9,7 @@ use Rattle.octo_house_rules.specs.Legal.{Standing, beginning, Legal}
 use Rattle.octo_house.specs.Beginning.{IsMadeOf}
 use Rattle.octo_house.specs.State.{known_of, session_of}
 use Rattle.octo_house.specs.declared.house.House.{House}
-use Rattle.octo_house_contents_proof.specs.Contents.{LegalOver}
+use Rattle.octo_house_contents.specs.Contents.{LegalOver}
 use Rattle.octo_house_laws.proofs.Contents.{keeps_over, every_line_over}
 use Rattle.octo_house_laws.proofs.Hosts.{new_host_keeps}
 use Rattle.octo_house_laws.proofs.Limits.{every_line_of_settings}

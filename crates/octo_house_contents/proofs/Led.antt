@@ -6,7 +6,7 @@ use Rattle.octo_asks.specs.History.{History}
 use Rattle.octo_asks.specs.declared.entry.Entry.{Entry}
 use Rattle.octo_house_rules.specs.Legal.{Standing, Legal, IsLegal, after_entry, after_all}
 use Rattle.octo_house_rules.specs.Walks.{Walks, Walked}
-use Rattle.octo_house_contents_proof.specs.Contents.{with_files, EachOver, after_over, OnSome, LeadsOver, WalkedOver, WalksOver}
+use Rattle.octo_house_contents.specs.Contents.{with_files, EachOver, after_over, OnSome, LeadsOver, WalkedOver, WalksOver}
 
 -- what holds of each entry, if something else does
 pub each_so : (P Q : Entry → Standing → Type 0) → ((e : Entry) (s : Standing) → P e s → Q e s) → (contents : List (List ShelfFile)) (es : History) (s : Standing)
