@@ -1,5 +1,5 @@
 //! A database as it is when its keeper begins.
-ghost use Rattle.std.specs.Prelude.{◌∷◌, [], map, IfOk, IsErrOf, OnOk};
+ghost use Rattle.std.specs.Prelude.{◌≡◌, ◌∷◌, [], false, map, IfOk, IsErrOf, OnOk, OnErr};
 ghost use Rattle.sqlite.specs.Held.{state};
 ghost use Rattle.sqlite.specs.State.{HasCleanDisk};
 ghost use Rattle.octo_keeper_sql.specs.Kept.{IsAtomic, Unstored};
@@ -173,6 +173,8 @@ pub(crate) fn settle_schema<S: Alter>(
         → Settles S.Store connection.old connection.new) }
     ensures failed { IsErrOf result fault.Failed → HasCleanDisk (state S.Store connection.new)
         → FailsToAdopt S.Store connection.old connection.new }
+    ensures ended { OnErr result
+        (connection.old.in_transaction ≡ false → connection.new.in_transaction ≡ false) }
     ensures atomic { IsAtomic S.Store (Settled S.Store) connection.old connection.new }
 {
     if !connection.is_autocommit() {

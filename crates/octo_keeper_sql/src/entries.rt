@@ -1,5 +1,5 @@
 //! Entries of the queue in the database.
-ghost use Rattle.std.specs.Prelude.{◌≡◌, ◌∷◌, [], Some, map, IfOk, IsErrOf, IfErr, OnOk};
+ghost use Rattle.std.specs.Prelude.{false, ◌≡◌, ◌∷◌, [], Some, map, IfOk, IsErrOf, IfErr, OnOk};
 ghost use Rattle.std.specs.List.{All};
 ghost use Rattle.sqlite.specs.Held.{state};
 ghost use Rattle.sqlite.specs.State.{HasCleanDisk};
@@ -45,6 +45,7 @@ pub(crate) fn load_entries<S: Alter>(
         → EndsEarly S.Store SELECT_ENTRIES.now connection.old connection.new }
     ensures clean { HasCleanDisk (state S.Store connection.new)
         → HasCleanDisk (state S.Store connection.old) }
+    ensures ended { connection.old.in_transaction ≡ false → connection.new.in_transaction ≡ false }
 {
     match connection.query_all(SELECT_ENTRIES, &[]) {
         Ok(rows) => entries_of(alloc, rows.as_slice()),

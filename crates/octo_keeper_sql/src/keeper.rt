@@ -23,7 +23,7 @@ pub struct NotAdopted<S: Alter + Drop> {
 }
 
 impl<S: Alter + Drop> SqlKeeper<S> {
-    ghost use Rattle.std.specs.Prelude.{◌≡◌, IfOk, IfErr, IsErrOf};
+    ghost use Rattle.std.specs.Prelude.{◌≡◌, false, IfOk, IfErr, IsErrOf};
     ghost use Rattle.sqlite.specs.Held.{state};
     ghost use Rattle.sqlite.specs.State.{HasCleanDisk};
     ghost use Rattle.octo_keeper_sql.specs.Kept.{IsAtomic};
@@ -43,6 +43,8 @@ impl<S: Alter + Drop> SqlKeeper<S> {
         ensures failed { IfErr result (λ refused. refused.fault ≡ fault.Failed
             → HasCleanDisk (state S.Store refused.connection)
             → FailsToAdopt S.Store connection refused.connection) }
+        ensures ended { IfErr result (λ refused. connection.in_transaction ≡ false
+            → refused.connection.in_transaction ≡ false) }
         ensures adopted { IfOk result
             (λ keeper. IsAtomic S.Store (Settled S.Store) connection keeper.connection) }
         ensures refused { IfErr result
@@ -83,7 +85,7 @@ impl<S: Alter + Drop> SqlKeeper<S> {
 }
 
 impl<S: Alter + Drop> Keeper for SqlKeeper<S> {
-    ghost use Rattle.std.specs.Prelude.{◌≡◌, ◌⊎◌, None, IfOk, OnOk, OnErr, IsErrOf};
+    ghost use Rattle.std.specs.Prelude.{◌≡◌, ◌⊎◌, false, None, IfOk, OnOk, OnErr, IsErrOf};
     ghost use Rattle.std.specs.List.{All};
     ghost use Rattle.sqlite.specs.Held.{state};
     ghost use Rattle.sqlite.specs.State.{HasCleanDisk};
@@ -113,6 +115,12 @@ impl<S: Alter + Drop> Keeper for SqlKeeper<S> {
         ensures memory { IsErrOf result fault.NoMemory
             → HasCleanDisk (state S.Store self.new.connection)
             → LacksMemory S.Store self.old.connection self.new.connection }
+
+        // Of each disk: a disk that returned something else than was written stays one, and no transaction is left open.
+        ensures clean { HasCleanDisk (state S.Store self.new.connection)
+            → HasCleanDisk (state S.Store self.old.connection) }
+        ensures ended { self.old.connection.in_transaction ≡ false
+            → self.new.connection.in_transaction ≡ false }
 
         ensures counts { Counts (IsErrOf result fault.Failed) self.old.faults self.new.faults }
         ensures steady { (IsErrOf result fault.Failed → ⊥) → self.new.faults ≡ self.old.faults }

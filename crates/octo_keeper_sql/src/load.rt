@@ -1,5 +1,5 @@
 //! The tables as the database keeps them.
-ghost use Rattle.std.specs.Prelude.{◌⊎◌, IfOk, IsErrOf};
+ghost use Rattle.std.specs.Prelude.{◌≡◌, false, ◌⊎◌, IfOk, IsErrOf};
 ghost use Rattle.std.specs.List.{All};
 ghost use Rattle.sqlite.specs.Held.{state};
 ghost use Rattle.sqlite.specs.State.{HasCleanDisk};
@@ -24,6 +24,9 @@ fn load_rows<S: Alter>(alloc: Global, connection: &mut Connection<S>) -> Result<
         → FailsToLoad S.Store connection.old connection.new }
     ensures memory { IsErrOf result fault.NoMemory → HasCleanDisk (state S.Store connection.new)
         → LacksMemory S.Store connection.old connection.new }
+    ensures clean { HasCleanDisk (state S.Store connection.new)
+        → HasCleanDisk (state S.Store connection.old) }
+    ensures ended { connection.old.in_transaction ≡ false → connection.new.in_transaction ≡ false }
 {
     let users = load_users(alloc, connection)?;
     let queue = load_entries(alloc, connection)?;
@@ -49,6 +52,9 @@ pub(crate) fn load_tables<S: Alter>(
         ⊎ IsUnsound S.Store connection.old connection.new }
     ensures memory { IsErrOf result fault.NoMemory → HasCleanDisk (state S.Store connection.new)
         → LacksMemory S.Store connection.old connection.new }
+    ensures clean { HasCleanDisk (state S.Store connection.new)
+        → HasCleanDisk (state S.Store connection.old) }
+    ensures ended { connection.old.in_transaction ≡ false → connection.new.in_transaction ≡ false }
 {
     let tables = load_rows(alloc, connection)?;
     if !are_sound(alloc, &tables) {

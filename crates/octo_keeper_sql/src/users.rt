@@ -1,5 +1,5 @@
 //! Users of the database.
-ghost use Rattle.std.specs.Prelude.{◌∷◌, [], map, IfOk, IsErrOf, IfErr, OnOk};
+ghost use Rattle.std.specs.Prelude.{◌≡◌, false, ◌∷◌, [], map, IfOk, IsErrOf, IfErr, OnOk};
 ghost use Rattle.std.specs.List.{All};
 ghost use Rattle.sqlite.specs.Held.{state};
 ghost use Rattle.sqlite.specs.State.{HasCleanDisk};
@@ -34,6 +34,7 @@ pub(crate) fn load_users<S: Alter>(
         → EndsEarly S.Store SELECT_USERS.now connection.old connection.new }
     ensures clean { HasCleanDisk (state S.Store connection.new)
         → HasCleanDisk (state S.Store connection.old) }
+    ensures ended { connection.old.in_transaction ≡ false → connection.new.in_transaction ≡ false }
 {
     match connection.query_all(SELECT_USERS, &[]) {
         Ok(rows) => users_of(alloc, rows.as_slice()),
