@@ -91,3 +91,13 @@ pub returns-in-Backup-clause-files : goal.returns-in-Backup-clause-files
 returns-in-Backup-clause-files g c =
     shelves-same _ _ (λ files. request_verdict c.args.request.now c.args.user.now files (known_of c.args.self.now)) _ refl
     (λ files. request-leaves c.args.request.now c.args.user.now files (known_of c.args.self.now) (ap is_storing c.in-Backup.is))
+
+pub returns-in-GetFile-clause-files : goal.returns-in-GetFile-clause-files
+returns-in-GetFile-clause-files g c =
+    shelves-same _ _ (λ files. request_verdict c.args.request.now c.args.user.now files (known_of c.args.self.now)) _ c.file.ensures.rest.stays
+    (λ files. request-leaves c.args.request.now c.args.user.now files (known_of c.args.self.now) (ap is_storing c.in-GetFile.is))
+
+pub returns-in-Download-clause-files : goal.returns-in-Download-clause-files
+returns-in-Download-clause-files g c =
+    shelves-same _ _ (λ files. request_verdict c.args.request.now c.args.user.now files (known_of c.args.self.now)) _ c.download.ensures.rest.stays
+    (λ files. request-leaves c.args.request.now c.args.user.now files (known_of c.args.self.now) (ap is_storing c.in-Download.is))

@@ -1,7 +1,8 @@
-use Rattle.std.proofs.Common.{◌≡◌, false, rules, arith, refl, ap, sym, ◌∙◌}
+use Rattle.std.proofs.Common.{◌≡◌, true, false, rules, arith, refl, ap, sym, ◌∙◌}
 use Rattle.std.proofs.lemmas.Bool.{false≢true}
 use Rattle.octo_house_rules.specs.Answers.{request_verdict}
 use Rattle.octo_house_tables.proofs.Keeping.{keeps-same}
+use Rattle.octo_house.specs.Groups.{is_reading}
 use Rattle.octo_house.specs.State.{known_of}
 use Rattle.octo_house.proofs.Fileless.{shelves-same, request-leaves, is_storing}
 use Rattle.octo_house.proofs.house.House.edit.Goals as goal
@@ -48,8 +49,10 @@ returns-in-DropOther-clause-done g c = rw c.in-DropOther.is (λ files at. c.drop
 pub returns-in_default : goal.returns-in_default
 returns-in_default g c =
     let still : is_storing c.args.request.now ≡ false = search rules in
+    let unread : is_reading c.args.request.now ≡ false = search rules in
     record {
       done = λ files at. c.put_row.ensures.done files;
+      some = λ reads. absurd (false≢true (sym unread ∙ reads));
       granted = search rules;
       files = shelves-same _ _ (λ files. request_verdict c.args.request.now c.args.user.now files (known_of c.args.self.now)) _ refl
           (λ files. request-leaves c.args.request.now c.args.user.now files (known_of c.args.self.now) still);
