@@ -22,8 +22,8 @@ SLOW = "\n[serve]\npatience = 6000\n"
 class Load:
     """Requests a second, wrong replies, and two percentiles in milliseconds."""
 
-    def __init__(self, port, status, path, key="none", seconds=SECONDS):
-        words = [os.path.join(FOLDER, "plain_load"), str(port), str(CONNECTIONS), str(seconds), status, path, key]
+    def __init__(self, port, status, path, key="none", seconds=SECONDS, connections=None):
+        words = [os.path.join(FOLDER, "plain_load"), str(port), str(connections or CONNECTIONS), str(seconds), status, path, key]
         self.rate, wrong, self.half, self.most = map(float, subprocess.run(words, capture_output=True, check=True).stdout.split())
         self.wrong = int(wrong)
 
@@ -109,12 +109,14 @@ def beside_plain(octo):
     plain.kill()
 
 
-def asked(octo, what, aim):
-    print("%s, GET /api/version; load %s" % (what, load()))
+def asked(octo, what, connections, aim):
+    print("%s, GET /api/version, connections: %d; load %s" % (what, connections, load()))
     loads = []
     for _ in range(ROUNDS):
-        loads.append(Load(octo.port, "200", "/api/version", octo.key))
-        print("  " + str(loads[-1]), flush=True)
+        used = processor(octo.process.pid)
+        loads.append(Load(octo.port, "200", "/api/version", octo.key, connections=connections))
+        used = (processor(octo.process.pid) - used) / SECONDS
+        print("  %s, %.2f of a core" % (loads[-1], used), flush=True)
     print("medians: %.0f a second, p99 %.2f ms (%s)" % (median(loads, "rate"), median(loads, "most"), aim))
 
 
@@ -122,7 +124,7 @@ def idle(octo, what):
     before = processor(octo.process.pid)
     time.sleep(10)
     used = (processor(octo.process.pid) - before) / 10
-    print("idle for 10 s, %s: %.2f %% of a core (aim 2 %%); load %s" % (what, 100 * used, load()))
+    print("idle for 10 s, %s: %.2f %% of a core (aim 1 %%); load %s" % (what, 100 * used, load()))
 
 
 def print_rate(octo, name):
@@ -158,10 +160,12 @@ def main():
     paced = host("paced", Peer(True).port)
     try:
         beside_plain(down)
-        asked(down, "the link down", "aim 2,500 a second")
+        asked(down, "the link down", 8, "aim 2,500 a second")
+        asked(down, "the link down", 1, "aim 2,500 a second")
         idle(down, "the link down")
         silent.connect()
-        asked(silent, "a silent printer", "aims 900 a second and p99 10 ms")
+        asked(silent, "a silent printer", 8, "aims 8,000 a second and p99 5 ms")
+        asked(silent, "a silent printer", 1, "aim 2,500 a second")
         idle(silent, "a silent printer")
         paced.connect()
         prints(paced)
