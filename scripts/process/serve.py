@@ -142,6 +142,29 @@ def many_requests(folder):
         host.kill()
 
 
+def asks_in_a_wait(folder):
+    """The host's thread waits for 10 milliseconds at a time, for the clock or for the printer, and an ask ends the wait."""
+    printer = Printer(folder)
+    host = Host(folder, printer.port).start()
+
+    def median():
+        times = []
+        for _ in range(60):
+            began = time.monotonic()
+            host.ask("GET", "/api/version")
+            times.append(time.monotonic() - began)
+        return sorted(times)[30]
+
+    try:
+        check("asks with the link down don't wait for the clock", min(median() for _ in range(3)) < 0.004, True)
+        host.connect()
+        check("asks don't wait for a silent printer", min(median() for _ in range(3)) < 0.004, True)
+        check("the end after them", host.shut_down()[0], 0)
+    finally:
+        host.kill()
+        printer.kill()
+
+
 def killed_print(folder, after):
     """Kills the host some time after a print began. A new start finds the tables and whole files. The print is Failed, or Done if it was
     over."""
@@ -312,7 +335,7 @@ def free_and_taken():
 
 
 def main():
-    checks = [slicer_upload, silent_peers, vanishing_peers, many_requests, stopped_print, tables, refusals]
+    checks = [slicer_upload, silent_peers, vanishing_peers, many_requests, asks_in_a_wait, stopped_print, tables, refusals]
     checks += [lambda folder, after=after: killed_print(folder, after) for after in (0, 0.02, 0.1, 0.3, 0.7)]
     for work in checks:
         with tempfile.TemporaryDirectory() as folder:
