@@ -31,13 +31,18 @@ line_text line = drop (prefix_len is_ascii_digit (drop 1 line) + 2) line
 abbrev pub is_hosts : List ℕ → Bool
 is_hosts text = begins text (codes "M110") || begins text (codes "M105")
 
--- after a line was sent: one whose number isn't above that of each former one is sent again
+-- whether a line was sent before: its number isn't above the greatest one
+abbrev pub is_again : Option ℕ → ℕ → Bool
+is_again None number = false
+is_again (Some last) number = nat_le number last
+
+-- after a line was sent
 abbrev pub sent_by : Tally → List ℕ → Tally
 sent_by tally line =
-    if nat_le (line_number line) tally.last then record tally { again = more tally.again }
+    if is_again tally.last (line_number line) then record tally { again = more tally.again }
     else (if is_hosts (line_text line)
-    then record tally { last = line_number line; others = more tally.others }
-    else record tally { last = line_number line; commands = more tally.commands })
+    then record tally { last = Some (line_number line); others = more tally.others }
+    else record tally { last = Some (line_number line); commands = more tally.commands })
 
 -- after a reply
 abbrev pub replied_by : Tally → Reply → Tally
@@ -105,8 +110,8 @@ temps_words shown = codes ", " ++ shown
 -- what was sent and acknowledged
 abbrev pub count_words : Option ℕ → Tally → List ℕ
 count_words total tally =
-    decimal tally.commands ++ total_words total ++ codes " commands sent, " ++ decimal (acknowledged tally)
-    ++ codes " acknowledged, " ++ decimal tally.again ++ codes " lines again, "
+    decimal tally.commands ++ total_words total ++ codes " sent, " ++ decimal (acknowledged tally)
+    ++ codes " acknowledged, " ++ decimal tally.again ++ codes " again, "
 
 -- how far a print has come after these seconds, of this number of commands
 abbrev pub progress_words : Option ℕ → ℕ → Tally → List ℕ → List ℕ
@@ -114,9 +119,17 @@ progress_words total seconds tally temps =
     percent_words total (acknowledged tally) ++ count_words total tally ++ decimal seconds ++ codes " s"
     ++ left_words total seconds (acknowledged tally) ++ temps_words temps
 
+-- what a terminal takes before words that are shown in place: back to the beginning of the line, and what doesn't fit in it isn't wrapped
+abbrev pub before_words : List ℕ
+before_words = 13 ∷ 27 ∷ codes "[?7l"
+
+-- and after them: the rest of the line is erased, and what comes next is wrapped
+abbrev pub after_words : List ℕ
+after_words = (27 ∷ codes "[K") ++ (27 ∷ codes "[?7h")
+
 -- the bytes that show it in place, over what the line of a terminal has
 abbrev pub in_place : List ℕ → List ℕ
-in_place words = 13 ∷ map shown_byte words ++ (27 ∷ codes "[K")
+in_place words = before_words ++ map shown_byte words ++ after_words
 
 -- how many tenths of the commands are acknowledged
 abbrev pub tenth_of : Option ℕ → ℕ → ℕ
@@ -161,4 +174,4 @@ last_text showing total began shown moment tally temps =
 
 -- nothing was sent yet
 abbrev pub new_tally : Tally
-new_tally = record { last = 0; commands = 0; others = 0; again = 0; oks = 0; resends = 0 }
+new_tally = record { last = None; commands = 0; others = 0; again = 0; oks = 0; resends = 0 }

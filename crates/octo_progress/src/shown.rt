@@ -24,18 +24,21 @@ fn shown_byte(byte: u8) -> u8
     if byte < 32 || byte == 127 { b'?' } else { byte }
 }
 
-// The words over what the line of a terminal has: back to its beginning, and the rest of the line erased.
+// The words over what the line of a terminal has: back to its beginning, and the rest of the line erased. What doesn't fit in the line
+// isn't wrapped, since `\r` would then go back to the last row only.
+//
+// Source: DEC VT100, autowrap mode (DECAWM), erase in line (EL).
 fn in_place(words: &[u8]) -> Placed
     requires { length words.now < MOST_LOG_BYTES }
     ensures items { result.items ≡ in_place words.now }
-    ensures short { length result.items ≤ length words.now + 4 }
+    ensures short { length result.items ≤ length words.now + 14 }
 {
     let mut placed = Placed::new();
-    append(&mut placed, b"\r");
+    append(&mut placed, b"\r\x1b[?7l");
     for byte in words {
         append(&mut placed, &[shown_byte(*byte)]);
     }
-    append(&mut placed, b"\x1b[K");
+    append(&mut placed, b"\x1b[K\x1b[?7h");
     placed
 }
 

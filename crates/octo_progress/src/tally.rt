@@ -1,6 +1,6 @@
 //! How far a print over a link has come.
-ghost use Rattle.std.specs.Prelude.{◌≡◌, ◌+◌, ◌≤◌, length};
-ghost use Rattle.octo_progress.specs.Progress.{acknowledged, is_hosts, line_number, line_text, more, replied_by, sent_by};
+ghost use Rattle.std.specs.Prelude.{◌≡◌, ◌+◌, ◌≤◌, length, None};
+ghost use Rattle.octo_progress.specs.Progress.{acknowledged, is_again, is_hosts, line_number, line_text, more, replied_by, sent_by};
 
 use byte_text::{after, digits_in_front, number};
 use marlin_reply::Reply;
@@ -8,8 +8,8 @@ use marlin_reply::Reply;
 /// What was sent over a link and acknowledged.
 #[derive(Clone, Copy)]
 pub struct Tally {
-    /// The greatest line number that was sent.
-    pub last: u32,
+    /// The greatest line number that was sent. The first line of a session sets the number, and has the number 0 itself.
+    pub last: Option<u32>,
     /// How many commands of the file were sent, each counted once.
     pub commands: u64,
     /// How many lines of the host's own were sent: the first one, and those that ask for temperatures.
@@ -43,6 +43,16 @@ fn line_text(line: &[u8]) -> &[u8]
     after(line, digits_in_front(after(line, 1)) + 2)
 }
 
+// Whether a line with this number was sent before.
+fn is_again(last: Option<u32>, number: u32) -> bool
+    ensures { result ≡ is_again last number }
+{
+    match last {
+        Some(last) => number <= last,
+        None => false,
+    }
+}
+
 // Whether a text is of the host.
 fn is_hosts(text: &[u8]) -> bool
     ensures { result ≡ is_hosts text.now }
@@ -54,7 +64,7 @@ impl Tally {
     /// Nothing was sent yet.
     pub fn new() -> Self
         ensures { result ≡ record {
-          last = 0;
+          last = None;
           commands = 0;
           others = 0;
           again = 0;
@@ -63,7 +73,7 @@ impl Tally {
         } }
     {
         Tally {
-            last: 0,
+            last: None,
             commands: 0,
             others: 0,
             again: 0,
@@ -77,11 +87,11 @@ impl Tally {
         ensures { self.new ≡ sent_by self.old line.now }
     {
         let number = line_number(line);
-        if number <= self.last {
+        if is_again(self.last, number) {
             self.again = more(self.again);
             return;
         }
-        self.last = number;
+        self.last = Some(number);
         if is_hosts(line_text(line)) {
             self.others = more(self.others);
         } else {

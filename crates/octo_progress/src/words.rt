@@ -106,11 +106,11 @@ fn append_counts(words: &mut Words, total: Option<u32>, tally: &Tally)
 {
     append_count(words, tally.commands);
     append_total(words, total);
-    append(words, b" commands sent, ");
+    append(words, b" sent, ");
     append_count(words, tally.acknowledged());
     append(words, b" acknowledged, ");
     append_count(words, tally.again);
-    append(words, b" lines again, ");
+    append(words, b" again, ");
 }
 
 // How far a print has come after these seconds, of this number of commands if it is known.

@@ -35,7 +35,7 @@ fn exchange<L: Link>(rt: &impl Abort, link: &mut L, text: &[u8])
 fn print_two<L: Link>(rt: &impl Abort, link: &mut L)
     requires { L.up link.old ≡ true }
 {
-    exchange(rt, link, b"N1 M110 N1*125");
+    exchange(rt, link, b"N0 M110 N1*124");
     exchange(rt, link, b"N2 G28*17");
     exchange(rt, link, b"N3 G1 X5*102");
     link.hang_up();
@@ -48,7 +48,7 @@ fn tenths(rt: HostRuntime) {
     assert!(rt; link.dial("p").is_ok());
     print_two(&rt, &mut link);
     let wanted: &[u8] =
-        b"50%, 1 of 2 commands sent, 1 acknowledged, 0 lines again, 0 s, 0 s left\n100%, 2 of 2 commands sent, 2 acknowledged, 0 lines again, 0 s, 0 s left\n";
+        b"50%, 1 of 2 sent, 1 acknowledged, 0 again, 0 s, 0 s left\n100%, 2 of 2 sent, 2 acknowledged, 0 again, 0 s, 0 s left\n";
     assert!(rt; link.log().written() == Some(wanted));
 }
 
@@ -59,7 +59,7 @@ fn in_place(rt: HostRuntime) {
     assert!(rt; link.dial("p").is_ok());
     print_two(&rt, &mut link);
     let wanted: &[u8] =
-        b"\r0%, 0 of 2 commands sent, 0 acknowledged, 0 lines again, 0 s, 0 s left\x1b[K\r100%, 2 of 2 commands sent, 2 acknowledged, 0 lines again, 0 s, 0 s left\x1b[K\n";
+        b"\r\x1b[?7l0%, 0 of 2 sent, 0 acknowledged, 0 again, 0 s, 0 s left\x1b[K\x1b[?7h\r\x1b[?7l100%, 2 of 2 sent, 2 acknowledged, 0 again, 0 s, 0 s left\x1b[K\x1b[?7h\n";
     assert!(rt; link.log().written() == Some(wanted));
 }
 
