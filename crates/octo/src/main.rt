@@ -115,6 +115,7 @@ fn carry_out<
         keeper,
         &mut shelf,
         doors,
+        HostLog::new(system, is_logged),
     );
     say_of_end(system, words, status.code);
     ExitCode::from(status.code)

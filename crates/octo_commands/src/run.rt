@@ -147,6 +147,7 @@ fn run<
     K: Keeper,
     S: Shelf,
     D: Door + Send + Drop,
+    G: Sink + Drop,
 >(
     rt: &R,
     alloc: Global,
@@ -157,6 +158,7 @@ fn run<
     keeper: &mut K,
     shelf: &mut S,
     doors: &mut Doors<D>,
+    log: G,
 ) -> HostEnd
     requires { L.up link.old ≡ false }
     ensures comes { let at = around (link_state L.kind L.past L.calls L.up L.faults) T.moment
@@ -185,7 +187,7 @@ fn run<
     };
     match hosted_by(&command) {
         Some(settings) => host(
-            rt, alloc, files, settings, link, clock, keeper, shelf, doors,
+            rt, alloc, files, settings, link, clock, keeper, shelf, doors, log,
         ),
         None => {
             let report = carry_out(alloc, &command, files, link, clock);
@@ -198,8 +200,9 @@ fn run<
 /// `check`, `demo`, `measure`, `rest` or `serve`, as `octo_words` reads them. The status is the report's, or 8 if the output
 /// failed.
 ///
-/// Only `serve` uses the keeper, the shelf and the doors. The caller has made them of the database, the folder and the address that
-/// the arguments name. `serve` waits for connections, and may never end; every other command returns.
+/// Only `serve` uses the keeper, the shelf, the doors and the log, which gets the lines of the host's history. The caller has made
+/// them of the database, the folder and the address that the arguments name. `serve` waits for connections, and may never end; every
+/// other command returns.
 pub fn octo<
     R: Threads + Wait + Clone + Send + Sync + Drop,
     F: Source,
@@ -209,6 +212,7 @@ pub fn octo<
     K: Keeper,
     S: Shelf,
     D: Door + Send + Drop,
+    G: Sink + Drop,
 >(
     rt: &R,
     alloc: Global,
@@ -220,6 +224,7 @@ pub fn octo<
     keeper: &mut K,
     shelf: &mut S,
     doors: &mut Doors<D>,
+    log: G,
 ) -> Status
     requires { L.up link.old ≡ false }
 
@@ -255,7 +260,7 @@ pub fn octo<
     ensures sink { Counts (result.code ≡ 8) (O.faults out.old) (O.faults out.new) }
 {
     let HostEnd { report, history } = run(
-        rt, alloc, words, files, link, clock, keeper, shelf, doors,
+        rt, alloc, words, files, link, clock, keeper, shelf, doors, log,
     );
     match write_host_report(out, &report) {
         Ok(()) => Status {

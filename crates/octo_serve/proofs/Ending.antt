@@ -1,9 +1,12 @@
 -- What four workers' work says once their calls are those of a finished history.
-use Rattle.std.proofs.Common.{◌≡◌, ℕ, Bool, true, List, [], ◌∷◌, Option, Some, inl, inr, sym, refl, subst}
+use Rattle.std.proofs.Common.{◌≡◌, ℕ, Bool, true, List, [], ◌∷◌, ◌++◌, Option, Some, inl, inr, sym, refl, ap, subst, ◌∙◌}
+use Rattle.std.proofs.lemmas.Option.{same_Some}
 use Rattle.octo_outside_doors.specs.Doors.{ConnState}
 use Rattle.octo_outside_doors.specs.declared.door.Doors.{Doors}
 use Rattle.octo_asks.specs.History.{History, calls_of}
+use Rattle.octo_outside.specs.Recorded.{Became}
 use Rattle.octo_outside.proofs.Recorded.{became_so}
+use Rattle.octo_house_run.specs.Own.{ConnectsItself}
 use Rattle.octo_api_worker.specs.Worked.{AreOfReturned, HasReturned, HasWorked}
 use Rattle.hand_over.specs.declared.workers.Workers.{Workers}
 use Rattle.hand_over.specs.Views.{AreCalls}
@@ -79,3 +82,11 @@ pub ran_from_nothing : (old new : Setting) (before after history : History) (cal
 ran_from_nothing old new before after history calls none same ran =
     subst (λ (h : History). Ran old new (Some []) (Some h) calls) (sym same)
     (subst (λ (h : History). Ran old new (Some h) (Some after) calls) none ran)
+
+-- the same of the calls of its own
+pub own_from_nothing : (connects : Bool) (before after history : History) → before ≡ [] → history ≡ after
+    → Became (Some before) (Some after) (λ _ added. ConnectsItself connects added) → ConnectsItself connects history
+own_from_nothing connects before after history none same own =
+    let got = own after refl in
+    let front : got.0 ≡ [] = sym (same_Some before got.0 got.2) ∙ none in
+    subst (λ (h : History). ConnectsItself connects h) (sym (same ∙ (got.3 ∙ ap (λ (h : History). h ++ got.1) front))) got.4

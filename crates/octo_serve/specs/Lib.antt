@@ -2,3 +2,4 @@
 pub mod Around
 pub mod Doors
 pub mod Hosted
+pub mod Own

@@ -3,6 +3,7 @@
 #![tactic(auto)]
 
 mod beside;
+mod house_counter;
 mod serving;
 
 pub use serving::{Served, serve};

@@ -2,18 +2,22 @@
 ghost use Rattle.std.specs.Prelude.{◌≡◌, false, true, None, Some, IfOk, OnErr};
 ghost use Rattle.hand_over.specs.Ends.{house_place};
 ghost use Rattle.octo_house.specs.State.{session_of};
+ghost use Rattle.octo_house_run.specs.Own.{ConnectsItself};
 ghost use Rattle.octo_house_run.specs.Runs.{IsFresh};
+ghost use Rattle.octo_outside.specs.Recorded.{Became};
 ghost use Rattle.octo_serve.specs.Around.{link_state, keeper_state, shelf_state};
 ghost use Rattle.octo_serve.specs.Around.{door_state, door_states};
 ghost use Rattle.octo_serve.specs.Hosted.{setting, Ran, HasHosted};
 
 use crate::beside::four_beside;
-use hand_over::{History, HouseEnd, ends};
+use crate::house_counter::HouseCounter;
+use hand_over::{History, ends};
 use octo_api_routes::Routes;
 use octo_house::House;
 use octo_house_run::run;
 use octo_keeper::{Keeper, Shelf};
-use octo_outside::Clock;
+use octo_log_history::LoggedCounter;
+use octo_outside::{Clock, Sink};
 use octo_outside_doors::{Door, Doors};
 use printer_link::Link;
 use std::alloc::{AllocError, Global};
@@ -32,10 +36,10 @@ pub struct Served {
 }
 
 // Runs the house at the workers' counter.
-fn run_house<R: Wait, L: Link, T: Clock, K: Keeper, S: Shelf>(
+fn run_house<R: Wait, L: Link, T: Clock, K: Keeper, S: Shelf, G: Sink + Drop>(
     rt: &R,
     house: &mut House,
-    counter: &mut HouseEnd,
+    counter: &mut LoggedCounter<HouseCounter, G>,
     link: &mut L,
     clock: &mut T,
     keeper: &mut K,
@@ -44,16 +48,19 @@ fn run_house<R: Wait, L: Link, T: Clock, K: Keeper, S: Shelf>(
 ) -> u64
     requires fresh { IsFresh (session_of house.old) }
     requires down { L.up link.old ≡ false }
-    requires answered { counter.old.view.taken ≡ None }
-    requires open { counter.old.view.closed ≡ false }
+    requires answered { counter.old.counter.end.view.taken ≡ None }
+    requires open { counter.old.counter.end.view.closed ≡ false }
 
     ensures ran { let at = setting (link_state L.kind L.past L.calls L.up L.faults) T.moment
         (keeper_state K.tables K.faults) (shelf_state S.files S.faults) in
         Ran (at house.old link.old clock.old keeper.old shelf.old)
         (at house.new link.new clock.new keeper.new shelf.new)
-        (Some counter.old.view.history) (Some counter.new.view.history) result }
-    ensures closed { counter.new.view.closed ≡ true }
-    ensures place { house_place counter.new ≡ house_place counter.old }
+        (Some counter.old.counter.end.view.history)
+        (Some counter.new.counter.end.view.history) result }
+    ensures own { Became (Some counter.old.counter.end.view.history)
+        (Some counter.new.counter.end.view.history) (λ _ added. ConnectsItself connects added) }
+    ensures closed { counter.new.counter.end.view.closed ≡ true }
+    ensures place { house_place counter.new.counter.end ≡ house_place counter.old.counter.end }
 {
     run(rt, house, counter, link, clock, keeper, shelf, connects)
 }
@@ -62,10 +69,12 @@ fn run_house<R: Wait, L: Link, T: Clock, K: Keeper, S: Shelf>(
 /// house answers their asks and turns the link in this thread. It goes on until a shutdown was
 /// accepted, or all four workers have left and no print is active.
 ///
-/// If `connects` says so, the house connects to its first port by itself, as `run` says. Each worker waits through at most `patience` quiet reads of a connection. The call may wait
-/// without an end. If memory runs out at its beginning, nothing was touched; if it runs out later,
-/// the connection that met it is answered 507. A worker for which no thread can be started comes
+/// If `connects` says so, the house connects to its first port by itself, as `run` says. Each worker waits through at most
+/// `patience` quiet reads of a connection. The call may wait without an end. If memory runs out at its beginning, nothing was
+/// touched; if it runs out later, the connection that met it is answered 507. A worker for which no thread can be started comes
 /// after the house has ended.
+///
+/// `log` gets the lines of the history, as `LoggedCounter` says. Nothing else depends on it.
 pub fn serve<
     R: Threads + Wait + Clone + Send + Sync + Drop,
     L: Link,
@@ -73,6 +82,7 @@ pub fn serve<
     K: Keeper,
     S: Shelf,
     D: Door + Send + Drop,
+    G: Sink + Drop,
 >(
     rt: &R,
     alloc: Global,
@@ -84,6 +94,7 @@ pub fn serve<
     doors: &mut Doors<D>,
     patience: u32,
     connects: bool,
+    log: G,
 ) -> Result<Served, AllocError>
     requires fresh { IsFresh (session_of house.old) }
     requires down { L.up link.old ≡ false }
@@ -97,6 +108,9 @@ pub fn serve<
         (doors_at doors.old) (doors_at doors.new)
         served.calls served.doors_held served.history) }
 
+    // When it connects by itself.
+    ensures own { IfOk result (λ served. ConnectsItself connects served.history.history) }
+
     // Without memory for the table of routes or for the workers' ends nothing was touched.
     ensures house { OnErr result (house.new ≡ house.old) }
     ensures link { OnErr result (link.new ≡ link.old) }
@@ -106,7 +120,8 @@ pub fn serve<
     ensures doors { OnErr result (doors.new ≡ doors.old) }
 {
     let routes = Routes::new(alloc)?;
-    let (mut counter, mut workers) = ends(rt, alloc, &doors.a.bell())?;
+    let (counter, mut workers) = ends(rt, alloc, &doors.a.bell())?;
+    let mut counter = LoggedCounter::new(HouseCounter::new(counter), log);
     let (doors_held, calls) = four_beside(
         rt,
         alloc,
@@ -116,15 +131,21 @@ pub fn serve<
         patience,
         &mut || -> u64
             requires { IsFresh (session_of house.now) × (L.up link.now ≡ false)
-                × (counter.view.taken ≡ None) × (counter.view.closed ≡ false) }
+                × (counter.counter.end.view.taken ≡ None)
+                × (counter.counter.end.view.closed ≡ false) }
             ensures ran { let at = setting (link_state L.kind L.past L.calls L.up L.faults) T.moment
                 (keeper_state K.tables K.faults) (shelf_state S.files S.faults) in
                 Ran
                 (at house.entry.now link.entry.now clock.entry.now keeper.entry.now shelf.entry.now)
                 (at house.exit.now link.exit.now clock.exit.now keeper.exit.now shelf.exit.now)
-                (Some counter.entry.view.history) (Some counter.exit.view.history) result }
-            ensures ended { counter.exit.view.closed ≡ true }
-            ensures place { house_place counter.exit ≡ house_place counter.entry }
+                (Some counter.entry.counter.end.view.history)
+                (Some counter.exit.counter.end.view.history) result }
+            ensures own { Became (Some counter.entry.counter.end.view.history)
+                (Some counter.exit.counter.end.view.history)
+                (λ _ added. ConnectsItself connects added) }
+            ensures ended { counter.exit.counter.end.view.closed ≡ true }
+            ensures place { house_place counter.exit.counter.end
+                ≡ house_place counter.entry.counter.end }
         {
             run_house(
                 rt,
@@ -141,6 +162,6 @@ pub fn serve<
     Ok(Served {
         calls,
         doors_held,
-        history: counter.end(workers),
+        history: counter.into_counter().into_end().end(workers),
     })
 }

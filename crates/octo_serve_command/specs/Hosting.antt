@@ -20,6 +20,7 @@ use Rattle.octo_house.specs.Beginning.{IsMadeOf, BeginsOn}
 use Rattle.octo_house.specs.State.{IsListed, known_of}
 use Rattle.octo_house.specs.declared.faults.BeginFault.{BeginFault}
 use Rattle.octo_house.specs.declared.house.House.{House}
+use Rattle.octo_house_run.specs.Own.{ConnectsItself}
 use Rattle.octo_serve.specs.Around.{LinkState, KeeperState, ShelfState, DoorState, door_states}
 use Rattle.octo_serve.specs.Hosted.{Setting, HasHosted}
 use Rattle.octo_files.specs.Settings.{HaveSettings}
@@ -117,6 +118,8 @@ pub record HasServed (s : Settings) (old new : Around) (r : HostReport) (known :
   pub laws : HasLaws s between first known.history
   -- what of that holds over a real folder too
   pub laws_over : HasLawsOver s first known.history
+  -- when it asked for a connection by itself
+  pub own : ConnectsItself s.connect known.history
   pub is : r ≡ served_report calls held
 
 -- what serving by these settings comes to: the host doesn't begin, or there is no memory for its workers; or it serves

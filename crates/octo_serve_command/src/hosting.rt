@@ -17,7 +17,7 @@ use hand_over::History;
 use octo_files::{Report, read_settings_of};
 use octo_house::BeginFault;
 use octo_keeper::{Keeper, Shelf};
-use octo_outside::{Clock, Source};
+use octo_outside::{Clock, Sink, Source};
 use octo_outside_doors::{Door, Doors};
 use octo_serve::{Served, serve};
 use octo_settings::Settings;
@@ -92,6 +92,7 @@ fn serve_by<
     K: Keeper,
     S: Shelf,
     D: Door + Send + Drop,
+    G: Sink + Drop,
 >(
     rt: &R,
     alloc: Global,
@@ -101,6 +102,7 @@ fn serve_by<
     keeper: &mut K,
     shelf: &mut S,
     doors: &mut Doors<D>,
+    log: G,
 ) -> HostEnd
     requires sound { IsSettings settings }
     requires down { L.up link.old ≡ false }
@@ -129,7 +131,7 @@ fn serve_by<
         Err(fault) => return HostEnd::unserved(begin_fault_report(fault)),
     };
     match serve(
-        rt, alloc, &mut house, link, clock, keeper, shelf, doors, patience, connects,
+        rt, alloc, &mut house, link, clock, keeper, shelf, doors, patience, connects, log,
     ) {
         Ok(served) => has_served(served),
         Err(AllocError) => HostEnd::unserved(HostReport::Command(Report::NoMemory)),
@@ -141,6 +143,8 @@ fn serve_by<
 ///
 /// The settings are read first, and refused as by any other command; then the tables and the files are. Memory can run out only
 /// before a door or the link is touched. A session with the printer that ends doesn't end the host.
+///
+/// `log` gets the lines of the history, as `LoggedCounter` says. Nothing else depends on it.
 pub fn host<
     R: Threads + Wait + Clone + Send + Sync + Drop,
     F: Source,
@@ -149,6 +153,7 @@ pub fn host<
     K: Keeper,
     S: Shelf,
     D: Door + Send + Drop,
+    G: Sink + Drop,
 >(
     rt: &R,
     alloc: Global,
@@ -159,6 +164,7 @@ pub fn host<
     keeper: &mut K,
     shelf: &mut S,
     doors: &mut Doors<D>,
+    log: G,
 ) -> HostEnd
     requires down { L.up link.old ≡ false }
 
@@ -191,7 +197,7 @@ pub fn host<
         (F.faults files.old) (F.faults files.new) }
 {
     match read_settings_of(alloc, files, Some(settings)) {
-        Ok(settings) => serve_by(rt, alloc, settings, link, clock, keeper, shelf, doors),
+        Ok(settings) => serve_by(rt, alloc, settings, link, clock, keeper, shelf, doors, log),
         Err(report) => HostEnd::unserved(HostReport::Command(report)),
     }
 }

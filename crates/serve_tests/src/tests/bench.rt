@@ -6,7 +6,7 @@ use super::real_rests::RealRests;
 use octo_asks::{Ask, Request};
 use octo_house::House;
 use octo_keeper::{MemoryKeeper, MemoryShelf};
-use octo_outside::Blob;
+use octo_outside::{Blob, CallList, MemorySink};
 use octo_outside_doors::{Door, Doors};
 use octo_serve::serve;
 use printer_link::{Fate, FateList, MemoryLink};
@@ -91,6 +91,7 @@ impl Bench {
             doors,
             PATIENCE,
             false,
+            MemorySink::new(self.alloc, CallList::new(self.alloc)),
         ) {
             Ok(served) => (served.calls, served.doors_held),
             Err(_) => panic!(rt; "no memory"),

@@ -6,7 +6,7 @@ mod rows;
 
 use octo_commands::{Status, octo};
 use octo_keeper::{MemoryKeeper, MemoryShelf};
-use octo_outside::{MemoryClock, MemorySink, MemorySource, WordList};
+use octo_outside::{CallList, MemoryClock, MemorySink, MemorySource, WordList};
 use octo_outside_doors::{Doors, MemoryDoor};
 use printer_link::{Fate, FateList, MemoryLink, Schedule};
 use std::alloc::Global;
@@ -120,6 +120,7 @@ impl Bench {
             &mut self.host.keeper,
             &mut self.host.shelf,
             &mut self.host.doors,
+            MemorySink::new(alloc, CallList::new(alloc)),
         )
     }
 

@@ -1,3 +1,4 @@
+use Rattle.octo_serve.proofs.Owning.{asks_of_worker}
 use Rattle.octo_serve.proofs.serving.run_house.Goals as goal
 
 pub returns-clause-ran : goal.returns-clause-ran
@@ -20,3 +21,6 @@ returns-clause-ran g c = record {
   keeper = c.run.ensures.keeper;
   shelf = c.run.ensures.shelf;
 }
+
+pub returns-clause-own : goal.returns-clause-own
+returns-clause-own g c = c.run.ensures.own (λ logged. asks_of_worker logged.counter.end.view.taken logged.counter.of_worker)

@@ -2,7 +2,7 @@ use Rattle.std.proofs.Common.{of_calls, List, ap, subst}
 use Rattle.octo_asks.specs.History.{History}
 use Rattle.hand_over.specs.Ends.{HouseData, WorkerData}
 use Rattle.hand_over.specs.Views.{AreCalls}
-use Rattle.octo_serve.proofs.Ending.{all_served, ran_from_nothing}
+use Rattle.octo_serve.proofs.Ending.{all_served, own_from_nothing, ran_from_nothing}
 use Rattle.octo_serve.proofs.Leaving.{hosts}
 use Rattle.octo_serve.proofs.serving.serve.Goals as goal
 
@@ -17,3 +17,7 @@ returns-clause-ok g c =
     (ap (λ (w : WorkerData). w.view.mine) made.c) (ap (λ (w : WorkerData). w.view.mine) made.d)
     (subst (λ (m : List History). AreCalls c.end.result.history 0 m) c.end.ensures.mines c.end.ensures.calls)
     c.four_beside-doors_held.ensures.works)
+
+pub returns-clause-own : goal.returns-clause-own
+returns-clause-own g c =
+    own_from_nothing _ _ _ _ (ap (λ (h : HouseData). h.view.history) c.in_ok-counter.ensures.house) c.end.ensures.history (search of_calls)

@@ -54,6 +54,7 @@ returns-in-Ok-serve-clause-serves g c =
           c.serve.new.house ran.calls ran.doors_held _ c.requires.sound e.made c.in-Ok-serve.ensures.ok;
       laws_over = host_laws_over c.args.settings (at c.args.link.now c.args.clock.now c.begin_by.new.keeper c.begin_by.new.shelf c.args.doors.now) _ c.in-Ok.house
           c.serve.new.house ran.calls ran.doors_held _ c.requires.sound e.made c.in-Ok-serve.ensures.ok;
+      own = c.in-Ok-serve.ensures.own;
       is = c.has_served.ensures.report;
     })
 
@@ -91,6 +92,7 @@ returns-in-Ok-serve-clause-causes g c =
           c.serve.new.house ran.calls ran.doors_held _ c.requires.sound e.made c.in-Ok-serve.ensures.ok;
       laws_over = host_laws_over c.args.settings (at c.args.link.now c.args.clock.now c.begin_by.new.keeper c.begin_by.new.shelf c.args.doors.now) _ c.in-Ok.house
           c.serve.new.house ran.calls ran.doors_held _ c.requires.sound e.made c.in-Ok-serve.ensures.ok;
+      own = c.in-Ok-serve.ensures.own;
       is = c.has_served.ensures.report;
     })
 
