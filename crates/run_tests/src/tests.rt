@@ -3,6 +3,7 @@ mod asks;
 mod clocks;
 mod connections;
 mod desk;
+mod logged;
 mod makers;
 mod prints;
 mod ran;
