@@ -52,7 +52,6 @@ begin_over house past fresh =
 pub round_over : (first before mid after : Option History) (host old asked new : House) (at moment : ℕ) → at ≤ moment
     → WalksOver first before (OnSome (begins host)) (OnSome (stands_with old at)) → LeadsOnSome before mid moment old asked
     → ((files : Option (List ShelfFile)) → Leads mid after files files moment asked new)
-    → moment ≤ moment
     → WalksOver first after (OnSome (begins host)) (OnSome (stands_with new moment))
 round_over first before mid after host old asked new at moment below led answers turns =
     over_then first mid after (OnSome (begins host)) (OnSome (stands_with asked moment)) (OnSome (stands_with new moment))
