@@ -5,11 +5,12 @@ ghost use Rattle.hand_over.specs.Ends.{house_place, worker_place};
 
 use hand_over::{HouseEnd, WorkerEnd, Workers, ends};
 use octo_asks::{Answer, Ask, Asker, Closed, Counter, Next, Request};
-use octo_outside_bell::Bell;
+use octo_outside_bell::{Bell, Ear, bell_and_ear};
 use std::alloc::Global;
 use std::sync::Wait;
 use std::test::Fail;
 use std::thread::{Threads, join_mut, yield_now};
+use std::time::{Clock, Duration, Instant};
 
 fn answer_to(ask: Ask) -> Answer {
     match ask.request {
@@ -146,5 +147,25 @@ fn each_worker_gets_its_answer(rt: HostRuntime) -> Result<(), Fail> {
     house.close();
     house.end(Workers { a, b, c, d });
     assert!(&rt; matches!(&answers, (Some(Answer::Version), Some(Answer::Accepted))));
+    Ok(())
+}
+
+// Whether the bell has rung: a wait of 30 seconds ends within 10.
+fn has_rung<R: Clock>(rt: &R, ear: &mut Ear) -> Result<bool, Fail> {
+    let start = Instant::now(rt)?;
+    ear.wait(30_000);
+    Ok(start.elapsed(rt)? < Duration::from_secs(10))
+}
+
+// A worker that asks rings, also if the host has ended.
+#[test]
+fn an_ask_rings(rt: HostRuntime) -> Result<(), Fail> {
+    let ask = ask_of(rt.alloc(), Request::Version)?;
+    let (bell, mut ear) = bell_and_ear(&rt, rt.alloc())?;
+    let (mut house, mut workers) = ends(&rt, rt.alloc(), &bell)?;
+    house.close();
+    assert!(&rt; matches!(workers.b.ask(ask), Err(Closed)));
+    house.end(workers);
+    assert!(&rt; has_rung(&rt, &mut ear)?);
     Ok(())
 }
