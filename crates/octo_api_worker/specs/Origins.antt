@@ -1,24 +1,28 @@
 -- Pages of other origins, and the fields that let them read a reply (Fetch, section 3.3).
-use Rattle.std.specs.Prelude.{ℕ, List, [], ◌++◌, codes, bytes_eq, if◌then◌else◌, Option, Some, None}
-use Rattle.std.specs.List.{list_any}
+use Rattle.std.specs.Prelude.{ℕ, List, [], ◌∷◌, ◌++◌, codes, bytes_eq, if◌then◌else◌, Option, Some, None}
 use Rattle.octo_http.specs.Part.{crlf}
 use Rattle.octo_api_routes.specs.declared.direct.Direct.{Direct}
 use Rattle.octo_api_routes.specs.declared.direct.Direct.TheVariants as direct
 use Rattle.octo_api_routes.specs.declared.direct.Methods.{Methods}
 use Rattle.octo_api_refusals.specs.Reasons.{methods_text}
 
--- an origin, if it is in the list
+-- the origin of the list that is this text
 abbrev pub origin_in : List (List ℕ) → List ℕ → Option (List ℕ)
-origin_in origins origin = if list_any (λ o. bytes_eq o origin) origins then Some origin else None
+origin_in [] text = None
+origin_in (origin ∷ origins) text = if bytes_eq origin text then Some origin else origin_in origins text
 
 -- the origin of a message, if it has one and that is in the list
 abbrev pub listed : List (List ℕ) → Option (List ℕ) → Option (List ℕ)
 listed origins None = None
 listed origins (Some origin) = origin_in origins origin
 
+-- a field as a line
+abbrev pub field_line : List ℕ → List ℕ → List ℕ
+field_line name value = name ++ codes ": " ++ value ++ crlf
+
 -- the fields that let pages of an origin read a reply, and tell caches that another origin gets another one
 abbrev pub allow_origin : List ℕ → List ℕ
-allow_origin origin = codes "Access-Control-Allow-Origin: " ++ origin ++ crlf ++ codes "Vary: Origin" ++ crlf
+allow_origin origin = field_line (codes "Access-Control-Allow-Origin") origin ++ field_line (codes "Vary") (codes "Origin")
 
 -- the fields of a reply to a message from this origin
 abbrev pub origin_lines : Option (List ℕ) → List ℕ
@@ -28,8 +32,8 @@ origin_lines (Some origin) = allow_origin origin
 -- the methods and the fields that a page may send
 abbrev pub allow_use : Methods → List ℕ
 allow_use allowed =
-    codes "Access-Control-Allow-Methods: " ++ methods_text allowed ++ crlf
-    ++ codes "Access-Control-Allow-Headers: X-Api-Key, Content-Type" ++ crlf
+    field_line (codes "Access-Control-Allow-Methods") (methods_text allowed)
+    ++ field_line (codes "Access-Control-Allow-Headers") (codes "X-Api-Key, Content-Type")
 
 -- the fields of a reply to OPTIONS from this origin
 abbrev pub preflight_lines : Methods → Option (List ℕ) → List ℕ

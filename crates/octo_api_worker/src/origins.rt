@@ -1,9 +1,9 @@
 //! Pages of other origins, and the fields that let them read a reply.
 //!
 //! Source: Fetch, section 3.3, for the fields; RFC 6454, section 6.2, for an origin as a text.
-ghost use Rattle.std.specs.Prelude.{◌≡◌, ◌≤◌, ◌++◌};
+ghost use Rattle.std.specs.Prelude.{◌≡◌, ◌≤◌, ◌+◌, ◌++◌, length};
 ghost use Rattle.arrayvec.specs.ArrayVec.{array_vec_len};
-ghost use Rattle.octo_api_worker.specs.Origins.{origin_in, listed, allow_origin, origin_lines, allow_use, preflight_lines, direct_lines};
+ghost use Rattle.octo_api_worker.specs.Origins.{origin_in, listed, field_line, allow_origin, origin_lines, allow_use, preflight_lines, direct_lines};
 
 use byte_text::{Name, append};
 use octo_api_refusals::methods_text;
@@ -11,13 +11,13 @@ use octo_api_routes::{Direct, Methods};
 use octo_http::{FieldLines, Message};
 use octo_outside::NameList;
 
-// An origin, if it is in the list.
-fn origin_in(origins: &NameList, origin: &[u8]) -> Option<Name>
-    ensures { result ≡ origin_in origins.now origin.now }
+// The origin of the list that is this text.
+fn origin_in(origins: &NameList, text: &[u8]) -> Option<Name>
+    ensures { result ≡ origin_in origins.now text.now }
 {
-    for name in origins.as_slice() {
-        if name.as_bytes() == origin {
-            return Some(name.copy());
+    for origin in origins.as_slice() {
+        if origin.as_bytes() == text {
+            return Some(origin.copy());
         }
     }
     None
@@ -33,15 +33,31 @@ pub(crate) fn listed(origins: &NameList, message: &Message) -> Option<Name>
     }
 }
 
+// Adds a field.
+fn put_field(lines: &mut FieldLines, name: &[u8], value: &[u8])
+    requires { array_vec_len lines.old + length name.now + length value.now + 4 ≤ 320 }
+    ensures items { lines.new.items ≡ lines.old.items ++ field_line name.now value.now }
+    ensures len { array_vec_len lines.new
+        ≡ array_vec_len lines.old + length name.now + length value.now + 4 }
+{
+    append(lines, name);
+    append(lines, b": ");
+    append(lines, value);
+    append(lines, b"\r\n");
+}
+
 // The fields that let pages of an origin read a reply.
 fn allow_origin(origin: &Name) -> FieldLines
     ensures items { result.items ≡ allow_origin origin.now }
     ensures few { array_vec_len result ≤ 160 }
 {
     let mut lines = FieldLines::new();
-    append(&mut lines, b"Access-Control-Allow-Origin: ");
-    append(&mut lines, origin.as_bytes());
-    append(&mut lines, b"\r\nVary: Origin\r\n");
+    put_field(
+        &mut lines,
+        b"Access-Control-Allow-Origin",
+        origin.as_bytes(),
+    );
+    put_field(&mut lines, b"Vary", b"Origin");
     lines
 }
 
@@ -61,11 +77,15 @@ fn put_use(lines: &mut FieldLines, allowed: Methods)
     ensures { lines.new.items ≡ lines.old.items ++ allow_use allowed }
 {
     let names = methods_text(allowed);
-    append(lines, b"Access-Control-Allow-Methods: ");
-    append(lines, names.as_str().as_bytes());
-    append(
+    put_field(
         lines,
-        b"\r\nAccess-Control-Allow-Headers: X-Api-Key, Content-Type\r\n",
+        b"Access-Control-Allow-Methods",
+        names.as_str().as_bytes(),
+    );
+    put_field(
+        lines,
+        b"Access-Control-Allow-Headers",
+        b"X-Api-Key, Content-Type",
     );
 }
 
