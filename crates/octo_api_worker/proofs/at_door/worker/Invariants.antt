@@ -7,5 +7,5 @@ abbrev pub invariant-loop : goal.invariant-loop
 invariant-loop g l = (g.D.Door.faults l.door ≡ g.D.Door.faults l.initial.door)
     × (g.A.Asker.place l.asker ≡ g.A.Asker.place l.initial.asker)
     × ((inputs : List (List ℕ)) → g.D.Door.coming l.initial.door ≡ Some inputs
-    → IsWorking l.fn.terms.now inputs (g.D.Door.coming l.door) (g.D.Door.served l.initial.door) (g.D.Door.served l.door) (g.A.Asker.mine l.initial.asker) (g.A.Asker.mine l.asker))
+    → IsWorking l.fn.terms inputs (g.D.Door.coming l.door) (g.D.Door.served l.initial.door) (g.D.Door.served l.door) (g.A.Asker.mine l.initial.asker) (g.A.Asker.mine l.asker))
     × AddsAsks (g.A.Asker.mine l.initial.asker) (g.A.Asker.mine l.asker)
