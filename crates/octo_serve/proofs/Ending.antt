@@ -7,6 +7,7 @@ use Rattle.octo_asks.specs.History.{History, calls_of}
 use Rattle.octo_outside.specs.Recorded.{Became}
 use Rattle.octo_outside.proofs.Recorded.{became_so}
 use Rattle.octo_house_run.specs.Own.{ConnectsItself}
+use Rattle.octo_api_worker.specs.declared.terms.Terms.{Terms}
 use Rattle.octo_api_worker.specs.Worked.{AreOfReturned, HasReturned, HasWorked}
 use Rattle.hand_over.specs.declared.workers.Workers.{Workers}
 use Rattle.hand_over.specs.Views.{AreCalls}
@@ -15,10 +16,10 @@ use Rattle.octo_serve.specs.Hosted.{Setting, Ran}
 use Rattle.octo_serve.specs.Doors.{AtDoor, AllWork, IsServedBy, AreServed}
 
 -- a worker may have seen the end of a host that has ended
-pub may_have_seen : (patience : ℕ) (inputs : List (List ℕ)) (coming : Option (List (List ℕ))) (served served' : Option (List ConnState))
+pub may_have_seen : (terms : Terms) (inputs : List (List ℕ)) (coming : Option (List (List ℕ))) (served served' : Option (List ConnState))
     (mine mine' : Option History) (saw held : Bool)
-    → HasWorked patience inputs coming served served' mine mine' saw held → HasWorked patience inputs coming served served' mine mine' true held
-may_have_seen patience inputs coming served served' mine mine' saw held w = record {
+    → HasWorked terms inputs coming served served' mine mine' saw held → HasWorked terms inputs coming served served' mine mine' true held
+may_have_seen terms inputs coming served served' mine mine' saw held w = record {
   taken = w.taken;
   rest = w.rest;
   conns = w.conns;
@@ -43,36 +44,36 @@ returned_seeing mine mine' saw returned = became_so (Some mine) (Some mine') (λ
     (λ past added r. record { calls = r.calls; last = r.last; split = r.split; asks = r.asks; leave = r.leave; parted = λ _. refl })
 
 -- a worker that began without calls, and whose calls are these in the history
-pub served_by : (patience : ℕ) (old new : DoorState) (mine mine' calls : History) (saw held : Bool) → mine ≡ [] → calls ≡ mine'
-    → AtDoor patience old new (Some mine) (Some mine') saw held → IsServedBy patience old new calls held
-served_by patience old new mine mine' calls saw held begins same w =
-    let go : AtDoor patience old new (Some mine) (Some mine') true held = record {
-      conns = λ inputs at. may_have_seen patience inputs new.coming old.served new.served (Some mine) (Some mine') saw held (w.conns inputs at);
+pub served_by : (terms : Terms) (old new : DoorState) (mine mine' calls : History) (saw held : Bool) → mine ≡ [] → calls ≡ mine'
+    → AtDoor terms old new (Some mine) (Some mine') saw held → IsServedBy terms old new calls held
+served_by terms old new mine mine' calls saw held begins same w =
+    let go : AtDoor terms old new (Some mine) (Some mine') true held = record {
+      conns = λ inputs at. may_have_seen terms inputs new.coming old.served new.served (Some mine) (Some mine') saw held (w.conns inputs at);
       returned = returned_seeing mine mine' saw w.returned;
       steady = w.steady;
       failed = w.failed;
     } in
-    subst (λ (c : History). AtDoor patience old new (Some []) (Some c) true held) (sym same)
-    (subst (λ (m : History). AtDoor patience old new (Some m) (Some mine') true held) begins go)
+    subst (λ (c : History). AtDoor terms old new (Some []) (Some c) true held) (sym same)
+    (subst (λ (m : History). AtDoor terms old new (Some m) (Some mine') true held) begins go)
 
 -- the calls of all four
-pub all_served : {R : Type 0} (patience : ℕ) (old new : Doors DoorState) (workers workers' : Workers R) (history : History) (held : Bool)
+pub all_served : {R : Type 0} (terms : Terms) (old new : Doors DoorState) (workers workers' : Workers R) (history : History) (held : Bool)
     → workers.a.view.mine ≡ [] → workers.b.view.mine ≡ [] → workers.c.view.mine ≡ [] → workers.d.view.mine ≡ []
     → AreCalls history 0 (workers'.a.view.mine ∷ workers'.b.view.mine ∷ workers'.c.view.mine ∷ workers'.d.view.mine ∷ [])
-    → AllWork patience old new workers workers' held → AreServed patience old new history held
-all_served {R} patience old new workers workers' history held none_a none_b none_c none_d calls w = record {
+    → AllWork terms old new workers workers' held → AreServed terms old new history held
+all_served {R} terms old new workers workers' history held none_a none_b none_c none_d calls w = record {
   held_a = w.held_a;
   held_b = w.held_b;
   held_c = w.held_c;
   held_d = w.held_d;
   all = w.all;
-  a = served_by patience old.a new.a workers.a.view.mine workers'.a.view.mine (calls_of 0 history)
+  a = served_by terms old.a new.a workers.a.view.mine workers'.a.view.mine (calls_of 0 history)
       workers'.a.view.saw_close w.held_a none_a calls.0 w.a.served;
-  b = served_by patience old.b new.b workers.b.view.mine workers'.b.view.mine (calls_of 1 history)
+  b = served_by terms old.b new.b workers.b.view.mine workers'.b.view.mine (calls_of 1 history)
       workers'.b.view.saw_close w.held_b none_b calls.1.0 w.b.served;
-  c = served_by patience old.c new.c workers.c.view.mine workers'.c.view.mine (calls_of 2 history)
+  c = served_by terms old.c new.c workers.c.view.mine workers'.c.view.mine (calls_of 2 history)
       workers'.c.view.saw_close w.held_c none_c calls.1.1.0 w.c.served;
-  d = served_by patience old.d new.d workers.d.view.mine workers'.d.view.mine (calls_of 3 history)
+  d = served_by terms old.d new.d workers.d.view.mine workers'.d.view.mine (calls_of 3 history)
       workers'.d.view.saw_close w.held_d none_d calls.1.1.1.0 w.d.served;
 }
 

@@ -13,6 +13,7 @@ use Rattle.octo_asks.specs.declared.request.Request.{Request}
 use Rattle.octo_asks.specs.declared.request.Request.TheVariants.{Leave, AutoConnect}
 use Rattle.octo_asks.specs.declared.entry.Entry.TheVariants as entry
 use Rattle.octo_asks.specs.History.{History, calls_of}
+use Rattle.octo_api_worker.specs.declared.terms.Terms.{Terms}
 use Rattle.octo_api_worker.specs.Served.{IsServed, no_message, message}
 use Rattle.octo_api_worker.specs.Worked.{Served, none_served, one_more, Leaves, no_leave, one_leave, IsAsk, HasReturned, HasWorked}
 use Rattle.octo_api_worker.proofs.Asked.{leads_to, leads_asks}
@@ -39,17 +40,17 @@ asks_leave_none (entry.Call worker ask moment x ∷ es) all =
 asks_leave_none (entry.Note note ∷ es) all = absurd (All-head IsAsk (entry.Note note) es all)
 asks_leave_none (entry.Close ∷ es) all = absurd (All-head IsAsk entry.Close es all)
 
-conn_leaves_none : (patience : ℕ) (input : List ℕ) (conn : ConnState) (is_open : Bool) (calls : History) → IsServed patience input conn is_open calls
+conn_leaves_none : (terms : Terms) (input : List ℕ) (conn : ConnState) (is_open : Bool) (calls : History) → IsServed terms input conn is_open calls
     → leaves_made calls ≡ 0
-conn_leaves_none patience input conn is_open calls (no_message fault sent bytes answers cause replied wrote) = refl
-conn_leaves_none patience input conn is_open calls (message m sent reply is made says replied wrote) =
+conn_leaves_none terms input conn is_open calls (no_message fault sent bytes answers cause replied wrote) = refl
+conn_leaves_none terms input conn is_open calls (message m sent reply is made says replied wrote) =
     asks_leave_none made (leads_asks made (leads_to m reply is made replied))
 
-walk_leaves_none : (patience : ℕ) (inputs : List (List ℕ)) (conns : List ConnState) (is_open : Bool) (calls : History)
-    → Served patience inputs conns is_open calls → leaves_made calls ≡ 0
-walk_leaves_none patience inputs conns is_open calls none_served = refl
-walk_leaves_none patience inputs conns is_open calls (one_more before others made input conn is more walk served) =
-    leaves_append made more ∙ (λ i. walk_leaves_none patience before others true made walk i + conn_leaves_none patience input conn is_open more served i)
+walk_leaves_none : (terms : Terms) (inputs : List (List ℕ)) (conns : List ConnState) (is_open : Bool) (calls : History)
+    → Served terms inputs conns is_open calls → leaves_made calls ≡ 0
+walk_leaves_none terms inputs conns is_open calls none_served = refl
+walk_leaves_none terms inputs conns is_open calls (one_more before others made input conn is more walk served) =
+    leaves_append made more ∙ (λ i. walk_leaves_none terms before others true made walk i + conn_leaves_none terms input conn is_open more served i)
 
 leaves_once : (last : History) → Leaves last → leaves_made last ≤ 1
 leaves_once last no_leave = omega arith
@@ -65,10 +66,10 @@ returned_once calls saw returned =
     omega (arith, count, asks_leave_none r.calls r.asks, leaves_once r.last r.leave)
 
 -- a worker that has left has nothing more to come
-work_is_done : (patience : ℕ) (inputs : List (List ℕ)) (coming : Option (List (List ℕ))) (served served' : Option (List ConnState)) (calls : History)
-    (held : Bool) → HasWorked patience inputs coming served served' (Some []) (Some calls) true held → 1 ≤ leaves_made calls → coming ≡ Some []
-work_is_done patience inputs coming served served' calls false w once = w.left
-work_is_done patience inputs coming served served' calls true w once = elim (w.over refl) [
+work_is_done : (terms : Terms) (inputs : List (List ℕ)) (coming : Option (List (List ℕ))) (served served' : Option (List ConnState)) (calls : History)
+    (held : Bool) → HasWorked terms inputs coming served served' (Some []) (Some calls) true held → 1 ≤ leaves_made calls → coming ≡ Some []
+work_is_done terms inputs coming served served' calls false w once = w.left
+work_is_done terms inputs coming served served' calls true w once = elim (w.over refl) [
   | inl seen ↦ absurd (let none : leaves_made w.last ≡ 0 = ap leaves_made seen.1 in omega (arith, once, count, asked, none))
   | inr ended ↦ w.left ∙ ap Some ended.1
 ]
@@ -80,14 +81,14 @@ work_is_done patience inputs coming served served' calls true w once = elim (w.o
     count = ap leaves_made made ∙ leaves_append w.calls w.last
 
     asked : leaves_made w.calls ≡ 0
-    asked = walk_leaves_none patience w.taken w.conns w.is_open w.calls w.walk
+    asked = walk_leaves_none terms w.taken w.conns w.is_open w.calls w.walk
 
-door_is_done : (patience : ℕ) (old new : DoorState) (calls : History) (held : Bool) → IsServedBy patience old new calls held → 1 ≤ leaves_made calls
+door_is_done : (terms : Terms) (old new : DoorState) (calls : History) (held : Bool) → IsServedBy terms old new calls held → 1 ≤ leaves_made calls
     → HasNoMore old new
-door_is_done patience old new calls held by once = each old.coming refl
+door_is_done terms old new calls held by once = each old.coming refl
   where
     each : (coming : Option (List (List ℕ))) → old.coming ≡ coming → IfSome coming (λ _. new.coming ≡ Some [])
-    each (Some inputs) is = work_is_done patience inputs new.coming old.served new.served calls held (by.conns inputs is) once
+    each (Some inputs) is = work_is_done terms inputs new.coming old.served new.served calls held (by.conns inputs is) once
     each None is = tt
 
 leaves_more : (worker : ℕ) (ask : Ask) (moment : ℕ) (x : Answer) (es : History)
@@ -160,7 +161,7 @@ leaves_of_four (entry.Call (suc (suc (suc (suc worker)))) ask moment x ∷ es) a
     )
 
 -- four leaves, of which no worker made two
-module _ (patience : ℕ) (old new : Doors DoorState) (history : History) (held : Bool) (by : AreServed patience old new history held)
+module _ (terms : Terms) (old new : Doors DoorState) (history : History) (held : Bool) (by : AreServed terms old new history held)
     (four : all_of_four history ≡ true) (many : 4 ≤ leaves_made history) where
   sum : leaves_made history ≡ leaves_made (calls_of 0 history)
       + (leaves_made (calls_of 1 history) + (leaves_made (calls_of 2 history) + leaves_made (calls_of 3 history)))
@@ -180,34 +181,34 @@ module _ (patience : ℕ) (old new : Doors DoorState) (history : History) (held 
 
   all_are_done : AllHaveNoMore old new
   all_are_done = record {
-    a = door_is_done patience old.a new.a (calls_of 0 history) by.held_a by.a (omega (arith, many, sum, b_once, c_once, d_once));
-    b = door_is_done patience old.b new.b (calls_of 1 history) by.held_b by.b (omega (arith, many, sum, a_once, c_once, d_once));
-    c = door_is_done patience old.c new.c (calls_of 2 history) by.held_c by.c (omega (arith, many, sum, a_once, b_once, d_once));
-    d = door_is_done patience old.d new.d (calls_of 3 history) by.held_d by.d (omega (arith, many, sum, a_once, b_once, c_once));
+    a = door_is_done terms old.a new.a (calls_of 0 history) by.held_a by.a (omega (arith, many, sum, b_once, c_once, d_once));
+    b = door_is_done terms old.b new.b (calls_of 1 history) by.held_b by.b (omega (arith, many, sum, a_once, c_once, d_once));
+    c = door_is_done terms old.c new.c (calls_of 2 history) by.held_c by.c (omega (arith, many, sum, a_once, b_once, d_once));
+    d = door_is_done terms old.d new.d (calls_of 3 history) by.held_d by.d (omega (arith, many, sum, a_once, b_once, c_once));
   }
 
 -- why a host has ended
-ends_by : (patience : ℕ) (old new : Doors DoorState) (history : History) (held : Bool) (calls : ℕ) (active : Bool)
-    → AreServed patience old new history held → all_of_four history ≡ true → Became (Some []) (Some history) (λ _ added. IsOver calls active added)
+ends_by : (terms : Terms) (old new : Doors DoorState) (history : History) (held : Bool) (calls : ℕ) (active : Bool)
+    → AreServed terms old new history held → all_of_four history ≡ true → Became (Some []) (Some history) (λ _ added. IsOver calls active added)
     → (is_shut history ≡ true) ⊎ AllHaveNoMore old new
-ends_by patience old new history held calls active by four over =
+ends_by terms old new history held calls active by four over =
     let got = over history refl in
     let same : got.1 ≡ history = sym (got.3 ∙ ap (λ (p : History). p ++ got.1) (sym (same_Some [] got.0 got.2))) in
     elim got.4.why [
       | inl shut ↦ inl (subst (λ (h : History). is_shut h ≡ true) same shut)
-      | inr left ↦ inr (all_are_done patience old new history held by four (subst (λ (h : History). 4 ≤ leaves_made h) same left.0))
+      | inr left ↦ inr (all_are_done terms old new history held by four (subst (λ (h : History). 4 ≤ leaves_made h) same left.0))
     ]
 
 -- what a host did, from what its parts did
-pub hosts : (patience : ℕ) (old new : Setting) (doors doors' : Doors DoorState) (calls : ℕ) (held : Bool) (known : HistoryData)
+pub hosts : (terms : Terms) (old new : Setting) (doors doors' : Doors DoorState) (calls : ℕ) (held : Bool) (known : HistoryData)
     → Ran old new (Some []) (Some known.history) calls → has_close known.history ≡ true → AreCalls known.history 0 known.mines
-    → all_of_four known.history ≡ true → AreServed patience doors doors' known.history held
-    → HasHosted patience old new doors doors' calls held known
-hosts patience old new doors doors' calls held known ran ended mines four served = record {
+    → all_of_four known.history ≡ true → AreServed terms doors doors' known.history held
+    → HasHosted terms old new doors doors' calls held known
+hosts terms old new doors doors' calls held known ran ended mines four served = record {
   ran = ran;
   ended = ended;
   of_four = four;
   mines = mines;
   served = served;
-  why = ends_by patience doors doors' known.history held calls _ served four ran.over;
+  why = ends_by terms doors doors' known.history held calls _ served four ran.over;
 }

@@ -3,6 +3,7 @@ use Rattle.std.specs.Prelude.{◌≡◌, ◌⊎◌, ℕ, ◌≤◌, Bool, true, 
 use Rattle.octo_outside.specs.Recorded.{Became}
 use Rattle.octo_outside_doors.specs.declared.door.Doors.{Doors}
 use Rattle.octo_asks.specs.History.{History}
+use Rattle.octo_api_worker.specs.declared.terms.Terms.{Terms}
 use Rattle.hand_over.specs.Ends.{HistoryData}
 use Rattle.hand_over.specs.Views.{AreCalls, all_of_four, has_close}
 use Rattle.octo_house_rules.specs.Counted.{is_shut}
@@ -60,13 +61,13 @@ pub record Ran (old new : Setting) (past past' : Option History) (calls : ℕ) :
 
 -- A host served its doors until its end. It made these calls, leaves and its own apart; all doors held, or one didn't; and this is known of
 -- what was asked, answered and noted
-pub record HasHosted (patience : ℕ) (old new : Setting) (doors doors' : Doors DoorState) (calls : ℕ) (all_held : Bool) (known : HistoryData) : Type 0 where
+pub record HasHosted (terms : Terms) (old new : Setting) (doors doors' : Doors DoorState) (calls : ℕ) (all_held : Bool) (known : HistoryData) : Type 0 where
   pub ran : Ran old new (Some []) (Some known.history) calls
   pub ended : has_close known.history ≡ true
   -- each call is one of the four workers', or the house's own
   pub of_four : all_of_four known.history ≡ true
   -- each worker's calls are in the history once, in their order, and are those that its door's connections led to
   pub mines : AreCalls known.history 0 known.mines
-  pub served : AreServed patience doors doors' known.history all_held
+  pub served : AreServed terms doors doors' known.history all_held
   -- a shutdown was accepted, or no connection of any door will come any more
   pub why : (is_shut known.history ≡ true) ⊎ AllHaveNoMore doors doors'

@@ -6,7 +6,7 @@ ghost use Rattle.octo_serve.specs.Doors.{WorksAt, AllWork, asker_state, worker_s
 
 use hand_over::Workers;
 use octo_api_routes::Routes;
-use octo_api_worker::worker;
+use octo_api_worker::{Terms, worker};
 use octo_asks::Asker;
 use octo_outside_doors::{Door, Doors};
 use std::alloc::Global;
@@ -20,14 +20,14 @@ fn work_at<R: Wait, D: Door, A: Asker>(
     routes: &Routes,
     door: &mut D,
     asker: &mut A,
-    patience: u32,
+    terms: &Terms,
 ) -> bool
-    ensures { WorksAt patience (door_state D.coming D.served D.faults door.old)
+    ensures { WorksAt terms.now (door_state D.coming D.served D.faults door.old)
         (door_state D.coming D.served D.faults door.new)
         (asker_state A.mine A.saw_close A.place asker.old)
         (asker_state A.mine A.saw_close A.place asker.new) result }
 {
-    worker(rt, alloc, routes, door, asker, patience)
+    worker(rt, alloc, routes, door, asker, terms)
 }
 
 // A worker at its door in a thread of its own, and other work in this one. Returns whether the
@@ -38,11 +38,11 @@ fn one_beside<R: Threads + Wait + Sync, D: Door + Send, A: Asker + Send, G: FnMu
     routes: &Routes,
     door: &mut D,
     asker: &mut A,
-    patience: u32,
+    terms: &Terms,
     work: &mut G,
 ) -> (bool, B)
     requires { G.pre work.old }
-    ensures works { WorksAt patience (door_state D.coming D.served D.faults door.old)
+    ensures works { WorksAt terms.now (door_state D.coming D.served D.faults door.old)
         (door_state D.coming D.served D.faults door.new)
         (asker_state A.mine A.saw_close A.place asker.old)
         (asker_state A.mine A.saw_close A.place asker.new) result.0 }
@@ -50,7 +50,7 @@ fn one_beside<R: Threads + Wait + Sync, D: Door + Send, A: Asker + Send, G: FnMu
 {
     join_mut(
         rt,
-        &mut || work_at(rt, alloc, routes, door, asker, patience),
+        &mut || work_at(rt, alloc, routes, door, asker, terms),
         work,
     )
 }
@@ -64,15 +64,15 @@ fn two_beside<R: Threads + Wait + Sync, D: Door + Send, A: Asker + Send, G: FnMu
     two: &mut D,
     first: &mut A,
     second: &mut A,
-    patience: u32,
+    terms: &Terms,
     work: &mut G,
 ) -> (bool, (bool, B))
     requires { G.pre work.old }
-    ensures first { WorksAt patience (door_state D.coming D.served D.faults one.old)
+    ensures first { WorksAt terms.now (door_state D.coming D.served D.faults one.old)
         (door_state D.coming D.served D.faults one.new)
         (asker_state A.mine A.saw_close A.place first.old)
         (asker_state A.mine A.saw_close A.place first.new) result.0 }
-    ensures second { WorksAt patience (door_state D.coming D.served D.faults two.old)
+    ensures second { WorksAt terms.now (door_state D.coming D.served D.faults two.old)
         (door_state D.coming D.served D.faults two.new)
         (asker_state A.mine A.saw_close A.place second.old)
         (asker_state A.mine A.saw_close A.place second.new) result.1.0 }
@@ -84,21 +84,21 @@ fn two_beside<R: Threads + Wait + Sync, D: Door + Send, A: Asker + Send, G: FnMu
         routes,
         one,
         first,
-        patience,
+        terms,
         &mut || -> (bool, B)
             requires { IsSync R.row × IsSend D.row × IsSend D.Conn.row × IsSend A.row
                 × G.pre work.now }
-            ensures second { WorksAt patience (door_state D.coming D.served D.faults two.entry.now)
+            ensures second { WorksAt terms.now (door_state D.coming D.served D.faults two.entry.now)
                 (door_state D.coming D.served D.faults two.exit.now)
                 (asker_state A.mine A.saw_close A.place second.entry.now)
                 (asker_state A.mine A.saw_close A.place second.exit.now) result.0 }
             ensures work { G.step work.entry.now result.1 work.exit.now }
-        { one_beside(rt, alloc, routes, two, second, patience, work) },
+        { one_beside(rt, alloc, routes, two, second, terms, work) },
     )
 }
 
-// Four workers at four doors, each in a thread of its own, and other work in this one. The workers share a table of routes.
-// Returns whether all doors held, and what the work returned.
+// Four workers at four doors, each in a thread of its own, and other work in this one. The workers share a table of routes and
+// the terms of connections. Returns whether all doors held, and what the work returned.
 pub(crate) fn four_beside<
     R: Threads + Wait + Send + Sync,
     D: Door + Send + Drop,
@@ -110,11 +110,11 @@ pub(crate) fn four_beside<
     routes: &Routes,
     doors: &mut Doors<D>,
     workers: &mut Workers<R>,
-    patience: u32,
+    terms: &Terms,
     work: &mut G,
 ) -> (bool, B)
     requires { G.pre work.old }
-    ensures works { AllWork patience
+    ensures works { AllWork terms.now
         (door_states (door_state D.coming D.served D.faults) doors.old)
         (door_states (door_state D.coming D.served D.faults) doors.new)
         workers.old workers.new result.0 }
@@ -135,18 +135,18 @@ pub(crate) fn four_beside<
         b,
         first,
         second,
-        patience,
+        terms,
         &mut || -> (bool, (bool, B))
             requires { IsSync R.row × IsSend D.row × IsSend D.Conn.row × IsSend R.row
                 × G.pre work.now }
-            ensures third { WorksAt patience (door_state D.coming D.served D.faults c.entry.now)
+            ensures third { WorksAt terms.now (door_state D.coming D.served D.faults c.entry.now)
                 (door_state D.coming D.served D.faults c.exit.now)
                 (worker_state third.entry.now) (worker_state third.exit.now) result.0 }
-            ensures fourth { WorksAt patience (door_state D.coming D.served D.faults d.entry.now)
+            ensures fourth { WorksAt terms.now (door_state D.coming D.served D.faults d.entry.now)
                 (door_state D.coming D.served D.faults d.exit.now)
                 (worker_state fourth.entry.now) (worker_state fourth.exit.now) result.1.0 }
             ensures work { G.step work.entry.now result.1.1 work.exit.now }
-        { two_beside(rt, alloc, routes, c, d, third, fourth, patience, work) },
+        { two_beside(rt, alloc, routes, c, d, third, fourth, terms, work) },
     );
     (a_held && b_held && c_held && d_held, done)
 }

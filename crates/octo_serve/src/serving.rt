@@ -13,6 +13,7 @@ use crate::beside::four_beside;
 use crate::house_counter::HouseCounter;
 use hand_over::{History, ends};
 use octo_api_routes::Routes;
+use octo_api_worker::Terms;
 use octo_house::House;
 use octo_house_run::run;
 use octo_keeper::{Keeper, Shelf};
@@ -69,9 +70,9 @@ fn run_house<R: Wait, L: Link, T: Clock, K: Keeper, S: Shelf, G: Sink + Drop>(
 /// house answers their asks and turns the link in this thread. It goes on until a shutdown was
 /// accepted, or all four workers have left and no print is active.
 ///
-/// If `connects` says so, the house connects to its first port by itself, as `run` says. Each worker waits through at most
-/// `patience` quiet reads of a connection. The call may wait without an end. If memory runs out at its beginning, nothing was
-/// touched; if it runs out later, the connection that met it is answered 507. A worker for which no thread can be started comes
+/// If `connects` says so, the house connects to its first port by itself, as `run` says. The terms hold for each connection.
+/// The call may wait without an end. If memory runs out at its beginning, nothing was touched; if it runs out later, the
+/// connection that met it is answered 507. A worker for which no thread can be started comes
 /// after the house has ended.
 ///
 /// `log` gets the lines of the history, as `LoggedCounter` says. Nothing else depends on it.
@@ -92,7 +93,7 @@ pub fn serve<
     keeper: &mut K,
     shelf: &mut S,
     doors: &mut Doors<D>,
-    patience: u32,
+    terms: &Terms,
     connects: bool,
     log: G,
 ) -> Result<Served, AllocError>
@@ -102,7 +103,7 @@ pub fn serve<
     ensures ok { let at = setting (link_state L.kind L.past L.calls L.up L.faults) T.moment
         (keeper_state K.tables K.faults) (shelf_state S.files S.faults) in
         let doors_at = door_states (door_state D.coming D.served D.faults) in
-        IfOk result (λ served. HasHosted patience
+        IfOk result (λ served. HasHosted terms.now
         (at house.old link.old clock.old keeper.old shelf.old)
         (at house.new link.new clock.new keeper.new shelf.new)
         (doors_at doors.old) (doors_at doors.new)
@@ -128,7 +129,7 @@ pub fn serve<
         &routes,
         doors,
         &mut workers,
-        patience,
+        terms,
         &mut || -> u64
             requires { IsFresh (session_of house.now) × (L.up link.now ≡ false)
                 × (counter.counter.end.view.taken ≡ None)
