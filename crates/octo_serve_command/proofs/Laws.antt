@@ -16,13 +16,13 @@ use Rattle.octo_house_laws.proofs.Limits.{every_line_of_settings}
 use Rattle.octo_serve.specs.Hosted.{HasHosted}
 use Rattle.octo_settings.specs.Sound.{IsSettings}
 use Rattle.octo_settings.specs.declared.settings.Settings.{Settings}
-use Rattle.octo_serve_command.specs.Beginning.{session_by, policy_by}
+use Rattle.octo_serve_command.specs.Beginning.{session_by, policy_by, terms_by}
 use Rattle.octo_serve_command.specs.Hosting.{Around, host_in, HasLaws, HasLawsOver}
 
 -- a host that began with a new desk and served
 pub host_laws : (s : Settings) (between new : Around) (first last : House) (calls : ℕ) (held : Bool) (known : HistoryData) → IsSettings s
     → IsMadeOf (session_by s) (policy_by s) s.ports s.material first
-    → HasHosted s.patience (host_in between first) (host_in new last) between.doors new.doors calls held known → HasLaws s between first known.history
+    → HasHosted (terms_by s) (host_in between first) (host_in new last) between.doors new.doors calls held known → HasLaws s between first known.history
 host_laws s between new first last calls held known sound made hosted files files_are =
     let at : Standing = beginning s.window s.limit_ms (known_of first) files in
     let walked = (hosted.ran.history files files_are).2 known.history refl in
@@ -42,7 +42,7 @@ host_laws s between new first last calls held known sound made hosted files file
 -- the same over contents of the shelf, whatever it records
 pub host_laws_over : (s : Settings) (between new : Around) (first last : House) (calls : ℕ) (held : Bool) (known : HistoryData) → IsSettings s
     → IsMadeOf (session_by s) (policy_by s) s.ports s.material first
-    → HasHosted s.patience (host_in between first) (host_in new last) between.doors new.doors calls held known → HasLawsOver s first known.history
+    → HasHosted (terms_by s) (host_in between first) (host_in new last) between.doors new.doors calls held known → HasLawsOver s first known.history
 host_laws_over s between new first last calls held known sound made hosted =
     let at : Standing = beginning s.window s.limit_ms (known_of first) [] in
     let walked = hosted.ran.contents known.history refl in

@@ -11,14 +11,14 @@ use Rattle.octo_house.specs.State.{known_of, session_of}
 use Rattle.octo_house.specs.declared.house.House.{House}
 use Rattle.octo_serve.specs.Hosted.{HasHosted}
 use Rattle.octo_settings.specs.declared.settings.Settings.{Settings}
-use Rattle.octo_serve_command.specs.Beginning.{session_by, policy_by}
+use Rattle.octo_serve_command.specs.Beginning.{session_by, policy_by, terms_by}
 use Rattle.octo_serve_command.specs.Hosting.{Around, host_in, HasPrints}
 use Rattle.std.proofs.lemmas.Option.{same_Some}
 
 -- a host that began with a new desk and served
 pub host_prints : (s : Settings) (between new : Around) (first last : House) (calls : ℕ) (held : Bool) (known : HistoryData) →
     IsMadeOf (session_by s) (policy_by s) s.ports s.material first →
-    HasHosted s.patience (host_in between first) (host_in new last) between.doors new.doors calls held known → HasPrints s between new first known.history
+    HasHosted (terms_by s) (host_in between first) (host_in new last) between.doors new.doors calls held known → HasPrints s between new first known.history
 host_prints s between new first last calls held known made hosted files files_are events there =
     let begun : IsBeginning (known_of first) = record {
       new = subst (λ (x : SessionData). IsNewDesk x.desk) (sym made.session_is) refl;

@@ -10,9 +10,12 @@ use Rattle.octo_house.specs.declared.faults.BeginFault.TheVariants as begin
 use Rattle.octo_files.specs.Settings.{HaveSettings}
 use Rattle.octo_files.specs.declared.report.Report.{Report}
 use Rattle.octo_files.specs.declared.report.Report.TheVariants as report
+use Rattle.octo_api_worker.specs.declared.terms.Terms.{Terms}
 use Rattle.octo_serve.specs.Around.{DoorState}
 use Rattle.octo_serve.specs.Doors.{AreServed}
+use Rattle.octo_serve.specs.Hosted.{Setting, HasHosted}
 use Rattle.octo_settings.specs.declared.settings.Settings.{Settings}
+use Rattle.octo_serve_command.specs.Beginning.{terms_by}
 use Rattle.octo_serve_command.specs.Hosting.{Around, AreLater, IsUnserved, HasServed, ServesBy, not_begun, served, Hosts, no_settings, OneRose, at_a, at_b, at_c, at_d, AllHeld, HasHostCauses}
 use Rattle.octo_serve_command.specs.Reports.{begin_fault_report, served_report}
 use Rattle.octo_serve_command.specs.declared.report.HostReport.{HostReport}
@@ -29,47 +32,53 @@ pub has_served : (s : Settings) (old new : Around) (r : HostReport) (known : Opt
     HasServed s old new r history → ServesBy s old new r known
 has_served s old new r known history is h = subst (λ k. ServesBy s old new r k) (sym is) (served r history h)
 
+-- a host whose terms are those of the settings
+pub hosted_by : (terms : Terms) (s : Settings) (old new : Setting) (doors doors' : Doors DoorState) (calls : ℕ) (held : Bool) (known : HistoryData)
+    → terms ≡ terms_by s → HasHosted terms old new doors doors' calls held known → HasHosted (terms_by s) old new doors doors' calls held known
+hosted_by terms s old new doors doors' calls held known are hosted =
+    subst (λ (t : Terms). HasHosted t old new doors doors' calls held known) are hosted
+
 -- if not all held, one failed
-one_failed : (patience : ℕ) (old new : Doors DoorState) (history : History) (a b c d : Bool) → (false ≡ (a && (b && (c && d)))) →
+one_failed : (terms : Terms) (old new : Doors DoorState) (history : History) (a b c d : Bool) → (false ≡ (a && (b && (c && d)))) →
     (a ≡ false → Rose old.a.faults new.a.faults) → (b ≡ false → Rose old.b.faults new.b.faults) → (c ≡ false → Rose old.c.faults new.c.faults) →
     (d ≡ false → Rose old.d.faults new.d.faults) → OneRose old new
-one_failed patience old new history false b c d is ra rb rc rd = at_a (ra refl)
-one_failed patience old new history true false c d is ra rb rc rd = at_b (rb refl)
-one_failed patience old new history true true false d is ra rb rc rd = at_c (rc refl)
-one_failed patience old new history true true true d is ra rb rc rd = at_d (rd (sym is))
+one_failed terms old new history false b c d is ra rb rc rd = at_a (ra refl)
+one_failed terms old new history true false c d is ra rb rc rd = at_b (rb refl)
+one_failed terms old new history true true false d is ra rb rc rd = at_c (rc refl)
+one_failed terms old new history true true true d is ra rb rc rd = at_d (rd (sym is))
 
 -- and if all did, each held
-all_held : (patience : ℕ) (old new : Doors DoorState) (history : History) (a b c d : Bool) → (true ≡ (a && (b && (c && d)))) →
+all_held : (terms : Terms) (old new : Doors DoorState) (history : History) (a b c d : Bool) → (true ≡ (a && (b && (c && d)))) →
     (a ≡ true → new.a.faults ≡ old.a.faults) → (b ≡ true → new.b.faults ≡ old.b.faults) → (c ≡ true → new.c.faults ≡ old.c.faults) →
     (d ≡ true → new.d.faults ≡ old.d.faults) → AllHeld old new
-all_held patience old new history true true true true is sa sb sc sd =
+all_held terms old new history true true true true is sa sb sc sd =
     record { at_a = sa refl; at_b = sb refl; at_c = sc refl; at_d = sd refl }
-all_held patience old new history false b c d is sa sb sc sd = absurd (cc)
-all_held patience old new history true false c d is sa sb sc sd = absurd (cc)
-all_held patience old new history true true false d is sa sb sc sd = absurd (cc)
-all_held patience old new history true true true false is sa sb sc sd = absurd (cc)
+all_held terms old new history false b c d is sa sb sc sd = absurd (cc)
+all_held terms old new history true false c d is sa sb sc sd = absurd (cc)
+all_held terms old new history true true false d is sa sb sc sd = absurd (cc)
+all_held terms old new history true true true false is sa sb sc sd = absurd (cc)
 
-module _ (patience : ℕ) (old new : Doors DoorState) (history : History) where
-  pub door_failed : AreServed patience old new history false → OneRose old new
-  door_failed x = one_failed patience old new history x.held_a x.held_b x.held_c x.held_d x.all x.a.failed x.b.failed x.c.failed x.d.failed
+module _ (terms : Terms) (old new : Doors DoorState) (history : History) where
+  pub door_failed : AreServed terms old new history false → OneRose old new
+  door_failed x = one_failed terms old new history x.held_a x.held_b x.held_c x.held_d x.all x.a.failed x.b.failed x.c.failed x.d.failed
 
-  pub doors_held : AreServed patience old new history true → AllHeld old new
-  doors_held x = all_held patience old new history x.held_a x.held_b x.held_c x.held_d x.all x.a.steady x.b.steady x.c.steady x.d.steady
+  pub doors_held : AreServed terms old new history true → AllHeld old new
+  doors_held x = all_held terms old new history x.held_a x.held_b x.held_c x.held_d x.all x.a.steady x.b.steady x.c.steady x.d.steady
 
 -- the causes of what is reported of a host that has served
-caused : (patience calls : ℕ) (old new : Around) (history : History) (held : Bool) → AreServed patience old.doors new.doors history held → AreLater old new →
+caused : (terms : Terms) (calls : ℕ) (old new : Around) (history : History) (held : Bool) → AreServed terms old.doors new.doors history held → AreLater old new →
     HasHostCauses old new (served_report calls held)
-caused patience calls old new history true x later = record {
+caused terms calls old new history true x later = record {
   keeper = λ is. absurd (cc);
   shelf = λ is. absurd (cc);
   door = λ n is. absurd (cc);
-  doors = λ n is. doors_held patience old.doors new.doors history x;
+  doors = λ n is. doors_held terms old.doors new.doors history x;
   counted = later;
 }
-caused patience calls old new history false x later = record {
+caused terms calls old new history false x later = record {
   keeper = λ is. absurd (cc);
   shelf = λ is. absurd (cc);
-  door = λ n is. door_failed patience old.doors new.doors history x;
+  door = λ n is. door_failed terms old.doors new.doors history x;
   doors = λ n is. absurd (cc);
   counted = later;
 }
@@ -84,8 +93,8 @@ served_causes s old new r known h =
       keeper = omega (arith, u.later.keeper, ran.keeper);
       shelf = omega (arith, u.later.shelf, ran.shelf);
     } in
-    let doors = subst (λ d. AreServed s.patience d new.doors known.history h.held) u.doors h.hosted.served in
-    subst (λ x. HasHostCauses old new x) (sym h.is) (caused s.patience h.calls old new known.history h.held doors later)
+    let doors = subst (λ d. AreServed (terms_by s) d new.doors known.history h.held) u.doors h.hosted.served in
+    subst (λ x. HasHostCauses old new x) (sym h.is) (caused (terms_by s) h.calls old new known.history h.held doors later)
 
 -- settings that can't be read, as it is reported
 pub without_settings : (files : Option Files) (settings : List ℕ) (old new : Around) (why : Report) (r : HostReport) (known : Option HistoryData) →

@@ -2,6 +2,7 @@
 use Rattle.std.specs.Prelude.{ℕ, false}
 use Rattle.job_desk.specs.Data.{ScriptTexts, new_desk}
 use Rattle.octo_access.specs.declared.policy.Policy.{Policy}
+use Rattle.octo_api_worker.specs.declared.terms.Terms.{Terms}
 use Rattle.octo_session.specs.Data.{SessionData}
 use Rattle.octo_settings.specs.declared.settings.Settings.{Settings}
 use Rattle.send_window.specs.Data.{new_sender}
@@ -23,3 +24,7 @@ session_by s = new_session s.scripts s.limits (pace_of s)
 -- the groups and the admin of the settings
 abbrev pub policy_by : Settings → Policy
 policy_by s = record { groups = s.groups; admin = s.admin }
+
+-- what holds for each connection, by the settings
+abbrev pub terms_by : Settings → Terms
+terms_by s = record { patience = s.patience; origins = s.origins }

@@ -27,7 +27,7 @@ use Rattle.octo_files.specs.Settings.{HaveSettings}
 use Rattle.octo_files.specs.declared.report.Report.{Report}
 use Rattle.octo_files.specs.declared.report.Report.TheVariants as report
 use Rattle.octo_settings.specs.declared.settings.Settings.{Settings}
-use Rattle.octo_serve_command.specs.Beginning.{session_by, policy_by}
+use Rattle.octo_serve_command.specs.Beginning.{session_by, policy_by, terms_by}
 use Rattle.octo_serve_command.specs.Reports.{begin_fault_report, served_report}
 use Rattle.octo_serve_command.specs.declared.report.HostReport.{HostReport}
 use Rattle.octo_serve_command.specs.declared.report.HostReport.TheVariants as host
@@ -111,7 +111,7 @@ pub record HasServed (s : Settings) (old new : Around) (r : HostReport) (known :
   pub begun : HasBegun s old between first
   pub calls : ℕ
   pub held : Bool
-  pub hosted : HasHosted s.patience (host_in between first) (host_in new last) between.doors new.doors calls held known
+  pub hosted : HasHosted (terms_by s) (host_in between first) (host_in new last) between.doors new.doors calls held known
   -- what became of the prints
   pub prints : HasPrints s between new first known.history
   -- who was denied, what callers learned of each other, puts that were repeated, and the courses, records and temperatures of prints

@@ -10,11 +10,12 @@ ghost use Rattle.print_queue.specs.Lawful.{IsLawful};
 ghost use Rattle.octo_house_tables.specs.Kept.{IsKept};
 ghost use Rattle.octo_house_run.specs.Runs.{IsFresh};
 ghost use Rattle.send_window.specs.Data.{IsSound};
-ghost use Rattle.octo_serve_command.specs.Beginning.{new_session, session_by, policy_by};
+ghost use Rattle.octo_serve_command.specs.Beginning.{new_session, session_by, policy_by, terms_by};
 ghost use Rattle.octo_house.specs.declared.faults.BeginFault.TheVariants as fault;
 
 use job_desk::{Desk, Scripts};
 use octo_access::Policy;
+use octo_api_worker::Terms;
 use octo_house::{BeginFault, House};
 use octo_keeper::{Keeper, Shelf};
 use octo_session::Session;
@@ -50,30 +51,38 @@ fn new_session(
     Ok(Session::new(desk, sender))
 }
 
+// A host that has begun, and what holds for its connections.
+#[derive(Drop)]
+pub(crate) struct Begun {
+    pub house: House,
+    pub terms: Terms,
+}
+
 // A host with a new session, the ports, the printer's material and the policy of these settings, on what the keeper and the shelf
-// hold.
+// hold, and the terms of the settings.
 pub(crate) fn begin_by<K: Keeper, S: Shelf>(
     alloc: Global,
     settings: Settings,
     keeper: &mut K,
     shelf: &mut S,
-) -> Result<House, BeginFault>
+) -> Result<Begun, BeginFault>
     requires { IsSettings settings }
 
     // The state that it begins with.
-    ensures made { IfOk result (λ house. IsMadeOf (session_by settings) (policy_by settings)
-        settings.ports settings.material house) }
-    ensures begins { IfOk result (λ house. BeginsOn (session_by settings) (policy_by settings)
-        settings.ports settings.material (K.tables keeper.old) (S.files shelf.old) house) }
-    ensures fresh { IfOk result (λ house. IsFresh (session_of house)) }
+    ensures made { IfOk result (λ begun. IsMadeOf (session_by settings) (policy_by settings)
+        settings.ports settings.material begun.house) }
+    ensures begins { IfOk result (λ begun. BeginsOn (session_by settings) (policy_by settings)
+        settings.ports settings.material (K.tables keeper.old) (S.files shelf.old) begun.house) }
+    ensures fresh { IfOk result (λ begun. IsFresh (session_of begun.house)) }
+    ensures terms { IfOk result (λ begun. begun.terms ≡ terms_by settings) }
 
     // Keeper and shelf hold what they held, and it is the host's.
     ensures tables { K.tables keeper.new ≡ K.tables keeper.old }
     ensures files { S.files shelf.new ≡ S.files shelf.old }
-    ensures kept { IfOk result (λ house. (tables : Tables) → K.tables keeper.new ≡ Some tables
+    ensures kept { IfOk result (λ begun. (tables : Tables) → K.tables keeper.new ≡ Some tables
         → IsUserTable tables.users → IsLawful tables.queue
-        → IsKept (length tables.prints) (K.tables keeper.new) house.tables) }
-    ensures listed { IfOk result (λ house. IsListed (S.files shelf.new) house) }
+        → IsKept (length tables.prints) (K.tables keeper.new) begun.house.tables) }
+    ensures listed { IfOk result (λ begun. IsListed (S.files shelf.new) begun.house) }
 
     // Faults, by their counts.
     ensures keeper { Counts (IsErrOf result fault.KeeperFailed)
@@ -91,7 +100,8 @@ pub(crate) fn begin_by<K: Keeper, S: Shelf>(
         connect: _,
         limits,
         admin,
-        patience: _,
+        patience,
+        origins,
         groups,
         scripts,
     } = settings;
@@ -104,5 +114,9 @@ pub(crate) fn begin_by<K: Keeper, S: Shelf>(
         return Err(BeginFault::NoMemory);
     };
     let policy = Policy::new(groups, admin);
-    House::begin(alloc, session, policy, ports, material, keeper, shelf)
+    let terms = Terms { patience, origins };
+    match House::begin(alloc, session, policy, ports, material, keeper, shelf) {
+        Ok(house) => Ok(Begun { house, terms }),
+        Err(fault) => Err(fault),
+    }
 }

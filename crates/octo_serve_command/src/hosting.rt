@@ -11,7 +11,7 @@ ghost use Rattle.octo_serve_command.specs.Hosting.{around, ServesBy, Hosts, HasH
 ghost use Rattle.octo_serve_command.specs.Reports.{begin_fault_report, served_report};
 ghost use Rattle.octo_serve_command.specs.declared.report.HostReport.TheVariants as host;
 
-use crate::beginning::begin_by;
+use crate::beginning::{Begun, begin_by};
 use crate::report::HostReport;
 use hand_over::History;
 use octo_files::{Report, read_settings_of};
@@ -124,14 +124,13 @@ fn serve_by<
     ensures kind { L.kind link.new ≡ L.kind link.old }
     ensures recorded { is_some (L.past link.new) ≡ is_some (L.past link.old) }
 {
-    let patience = settings.patience;
     let connects = settings.connect;
-    let mut house = match begin_by(alloc, settings, keeper, shelf) {
-        Ok(house) => house,
+    let Begun { mut house, terms } = match begin_by(alloc, settings, keeper, shelf) {
+        Ok(begun) => begun,
         Err(fault) => return HostEnd::unserved(begin_fault_report(fault)),
     };
     match serve(
-        rt, alloc, &mut house, link, clock, keeper, shelf, doors, patience, connects, log,
+        rt, alloc, &mut house, link, clock, keeper, shelf, doors, &terms, connects, log,
     ) {
         Ok(served) => has_served(served),
         Err(AllocError) => HostEnd::unserved(HostReport::Command(Report::NoMemory)),

@@ -53,7 +53,7 @@ fn each_takes(rt: &impl Abort, alloc: Global, rows: &[(&str, &[&str])]) -> Resul
 }
 
 // The paths of the printer and its job, and the methods that they take.
-const PRINTER_PATHS: [(&str, &[&str]); 9] = [
+const PRINTER_PATHS: [(&str, &[&str]); 10] = [
     ("/api/version", &["GET", "HEAD"]),
     ("/api/connection", &["GET", "HEAD", "POST"]),
     ("/api/printer", &["GET", "HEAD"]),

@@ -3,10 +3,11 @@ ghost use Rattle.octo_house.specs.State.{session_of};
 ghost use Rattle.octo_house_run.specs.Runs.{IsFresh};
 
 use super::real_rests::RealRests;
+use octo_api_worker::Terms;
 use octo_asks::{Ask, Request};
 use octo_house::House;
 use octo_keeper::{MemoryKeeper, MemoryShelf};
-use octo_outside::{Blob, CallList, MemorySink};
+use octo_outside::{Blob, CallList, MemorySink, NameList};
 use octo_outside_doors::{Door, Doors};
 use octo_serve::serve;
 use printer_link::{Fate, FateList, MemoryLink};
@@ -80,6 +81,10 @@ impl Bench {
     {
         assert!(rt; !self.link.is_up());
         let mut clock = RealRests::new(rt);
+        let terms = Terms {
+            patience: PATIENCE,
+            origins: NameList::new(self.alloc),
+        };
         match serve(
             rt,
             self.alloc,
@@ -89,7 +94,7 @@ impl Bench {
             &mut self.keeper,
             &mut self.shelf,
             doors,
-            PATIENCE,
+            &terms,
             false,
             MemorySink::new(self.alloc, CallList::new(self.alloc)),
         ) {

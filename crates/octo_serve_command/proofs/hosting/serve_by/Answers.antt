@@ -5,7 +5,7 @@ use Rattle.octo_serve_command.specs.declared.hosting.HostEnd.{HostEnd}
 use Rattle.octo_house.specs.declared.faults.BeginFault.TheVariants as fault
 use Rattle.octo_serve_command.proofs.Laws.{host_laws, host_laws_over}
 use Rattle.octo_serve_command.proofs.Printing.{host_prints}
-use Rattle.octo_serve_command.proofs.Serving.{has_served, not_served, served_causes}
+use Rattle.octo_serve_command.proofs.Serving.{has_served, hosted_by, not_served, served_causes}
 use Rattle.octo_serve_command.proofs.hosting.serve_by.Goals as goal
 
 pub returns-in-Err-clause-serves : goal.returns-in-Err-clause-serves
@@ -24,11 +24,12 @@ pub returns-in-Ok-serve-clause-serves : goal.returns-in-Ok-serve-clause-serves
 returns-in-Ok-serve-clause-serves g c =
     let e = c.in-Ok.ensures in
     let ran = c.in-Ok-serve.served in
+    let hosted = hosted_by _ c.args.settings _ _ _ _ _ _ _ e.terms c.in-Ok-serve.ensures.ok in
     let link_at = link_state g.L.Link.kind g.L.Link.past g.L.Link.calls g.L.Link.up g.L.Link.faults in
     let doors_at = door_state g.D.Door.coming g.D.Door.served g.D.Door.faults in
     let at = around link_at g.T.Clock.moment (keeper_state g.K.Keeper.tables g.K.Keeper.faults) (shelf_state g.S.Shelf.files g.S.Shelf.faults) doors_at in
     has_served c.args.settings _ _ _ _ ran.history c.has_served.ensures.history (record {
-      first = c.in-Ok.house;
+      first = c.in-Ok.begun.house;
       last = c.serve.new.house;
       between = at c.args.link.now c.args.clock.now c.begin_by.new.keeper c.begin_by.new.shelf c.args.doors.now;
       begun = record {
@@ -47,13 +48,13 @@ returns-in-Ok-serve-clause-serves g c =
       };
       calls = ran.calls;
       held = ran.doors_held;
-      hosted = c.in-Ok-serve.ensures.ok;
-      prints = host_prints c.args.settings (at c.args.link.now c.args.clock.now c.begin_by.new.keeper c.begin_by.new.shelf c.args.doors.now) _ c.in-Ok.house
-          c.serve.new.house ran.calls ran.doors_held _ e.made c.in-Ok-serve.ensures.ok;
-      laws = host_laws c.args.settings (at c.args.link.now c.args.clock.now c.begin_by.new.keeper c.begin_by.new.shelf c.args.doors.now) _ c.in-Ok.house
-          c.serve.new.house ran.calls ran.doors_held _ c.requires.sound e.made c.in-Ok-serve.ensures.ok;
-      laws_over = host_laws_over c.args.settings (at c.args.link.now c.args.clock.now c.begin_by.new.keeper c.begin_by.new.shelf c.args.doors.now) _ c.in-Ok.house
-          c.serve.new.house ran.calls ran.doors_held _ c.requires.sound e.made c.in-Ok-serve.ensures.ok;
+      hosted = hosted;
+      prints = host_prints c.args.settings (at c.args.link.now c.args.clock.now c.begin_by.new.keeper c.begin_by.new.shelf c.args.doors.now) _ c.in-Ok.begun.house
+          c.serve.new.house ran.calls ran.doors_held _ e.made hosted;
+      laws = host_laws c.args.settings (at c.args.link.now c.args.clock.now c.begin_by.new.keeper c.begin_by.new.shelf c.args.doors.now) _ c.in-Ok.begun.house
+          c.serve.new.house ran.calls ran.doors_held _ c.requires.sound e.made hosted;
+      laws_over = host_laws_over c.args.settings (at c.args.link.now c.args.clock.now c.begin_by.new.keeper c.begin_by.new.shelf c.args.doors.now) _ c.in-Ok.begun.house
+          c.serve.new.house ran.calls ran.doors_held _ c.requires.sound e.made hosted;
       own = c.in-Ok-serve.ensures.own;
       is = c.has_served.ensures.report;
     })
@@ -62,11 +63,12 @@ pub returns-in-Ok-serve-clause-causes : goal.returns-in-Ok-serve-clause-causes
 returns-in-Ok-serve-clause-causes g c =
     let e = c.in-Ok.ensures in
     let ran = c.in-Ok-serve.served in
+    let hosted = hosted_by _ c.args.settings _ _ _ _ _ _ _ e.terms c.in-Ok-serve.ensures.ok in
     let link_at = link_state g.L.Link.kind g.L.Link.past g.L.Link.calls g.L.Link.up g.L.Link.faults in
     let doors_at = door_state g.D.Door.coming g.D.Door.served g.D.Door.faults in
     let at = around link_at g.T.Clock.moment (keeper_state g.K.Keeper.tables g.K.Keeper.faults) (shelf_state g.S.Shelf.files g.S.Shelf.faults) doors_at in
     served_causes c.args.settings _ _ _ ran.history (record {
-      first = c.in-Ok.house;
+      first = c.in-Ok.begun.house;
       last = c.serve.new.house;
       between = at c.args.link.now c.args.clock.now c.begin_by.new.keeper c.begin_by.new.shelf c.args.doors.now;
       begun = record {
@@ -85,13 +87,13 @@ returns-in-Ok-serve-clause-causes g c =
       };
       calls = ran.calls;
       held = ran.doors_held;
-      hosted = c.in-Ok-serve.ensures.ok;
-      prints = host_prints c.args.settings (at c.args.link.now c.args.clock.now c.begin_by.new.keeper c.begin_by.new.shelf c.args.doors.now) _ c.in-Ok.house
-          c.serve.new.house ran.calls ran.doors_held _ e.made c.in-Ok-serve.ensures.ok;
-      laws = host_laws c.args.settings (at c.args.link.now c.args.clock.now c.begin_by.new.keeper c.begin_by.new.shelf c.args.doors.now) _ c.in-Ok.house
-          c.serve.new.house ran.calls ran.doors_held _ c.requires.sound e.made c.in-Ok-serve.ensures.ok;
-      laws_over = host_laws_over c.args.settings (at c.args.link.now c.args.clock.now c.begin_by.new.keeper c.begin_by.new.shelf c.args.doors.now) _ c.in-Ok.house
-          c.serve.new.house ran.calls ran.doors_held _ c.requires.sound e.made c.in-Ok-serve.ensures.ok;
+      hosted = hosted;
+      prints = host_prints c.args.settings (at c.args.link.now c.args.clock.now c.begin_by.new.keeper c.begin_by.new.shelf c.args.doors.now) _ c.in-Ok.begun.house
+          c.serve.new.house ran.calls ran.doors_held _ e.made hosted;
+      laws = host_laws c.args.settings (at c.args.link.now c.args.clock.now c.begin_by.new.keeper c.begin_by.new.shelf c.args.doors.now) _ c.in-Ok.begun.house
+          c.serve.new.house ran.calls ran.doors_held _ c.requires.sound e.made hosted;
+      laws_over = host_laws_over c.args.settings (at c.args.link.now c.args.clock.now c.begin_by.new.keeper c.begin_by.new.shelf c.args.doors.now) _ c.in-Ok.begun.house
+          c.serve.new.house ran.calls ran.doors_held _ c.requires.sound e.made hosted;
       own = c.in-Ok-serve.ensures.own;
       is = c.has_served.ensures.report;
     })
