@@ -1,5 +1,5 @@
 //! Keepers, shelves, and hosts on them.
-ghost use Rattle.std.specs.Prelude.{◌≡◌, ◌≤◌, [], ◌∷◌, codes, IfOk, IfSome, option_map};
+ghost use Rattle.std.specs.Prelude.{◌≡◌, ◌≤◌, [], ◌∷◌, codes, None, IfOk, IfSome, option_map};
 ghost use Rattle.std.specs.List.{slice_get};
 ghost use Rattle.send_window.specs.Data.{IsSound};
 ghost use Rattle.octo_house.specs.Beginning.{IsMadeOf};
@@ -21,6 +21,7 @@ use std::alloc::Global;
 pub fn keeper_of(alloc: Global, tables: Tables, fails: &[u64]) -> Option<MemoryKeeper>
     ensures { IfSome result (λ keeper. keeper ≡ record {
       tables = tables;
+      saved = None;
       calls = record { made = 0; faults = 0; fail_at = fails.now };
     }) }
 {
