@@ -121,6 +121,26 @@ fn make_private(rt: &HostRuntime, path: &str) {
         .open(rt, path);
 }
 
+// Opens the database file of that path and adopts it.
+fn open_database(rt: &HostRuntime, path: &str) -> Result<SqlKeeper<FileStore<File>>, KeeperFault>
+    ensures fresh { IfOk result (λ database. database.faults ≡ 0) }
+    ensures guarded { IfOk result (λ database.
+        HasCleanDisk (file_state database.connection)
+        → (file_state database.connection).IsShielded) }
+    ensures unlimited { IfOk result (λ database. database.connection.step_limit ≡ None) }
+    ensures memory { path.now ≡ codes ":memory:" → IsErrOf result fault.Failed }
+{
+    make_private(rt, path);
+    let connection = match Connection::open(rt, path) {
+        Ok(connection) => connection,
+        Err(error) => return Err(fault_of(error)),
+    };
+    match SqlKeeper::adopt(rt.alloc(), connection) {
+        Ok(database) => Ok(database),
+        Err(refused) => Err(refused.fault),
+    }
+}
+
 /// Opens the database file of that path and adopts it; a missing file is made, for its owner alone. The file is locked until the
 /// keeper is dropped: another program that has it open is a fault, and so are a path that is no database and `:memory:`.
 ///
@@ -135,18 +155,13 @@ pub fn open_keeper(rt: &HostRuntime, path: &Name) -> Result<FileKeeper, KeeperFa
     ensures unlimited { IfOk result (λ keeper. keeper.database.connection.step_limit ≡ None) }
     ensures memory { path.now ≡ codes ":memory:" → IsErrOf result fault.Failed }
 {
-    make_private(rt, path.as_str());
-    let connection = match Connection::open(rt, path.as_str()) {
-        Ok(connection) => connection,
-        Err(error) => return Err(fault_of(error)),
-    };
-    match SqlKeeper::adopt(rt.alloc(), connection) {
+    match open_database(rt, path.as_str()) {
         Ok(database) => Ok(FileKeeper {
             rt: *rt,
             path: path.copy(),
             database,
         }),
-        Err(refused) => Err(refused.fault),
+        Err(fault) => Err(fault),
     }
 }
 
