@@ -107,11 +107,17 @@ abbrev pub temps_words : List ℕ → List ℕ
 temps_words [] = []
 temps_words shown = codes ", " ++ shown
 
--- what was sent and acknowledged
+-- what was sent
+abbrev pub sent_words : Option ℕ → ℕ → List ℕ
+sent_words total commands = decimal commands ++ total_words total ++ codes " sent, "
+
+-- what was acknowledged, and what was sent again
+abbrev pub acknowledged_words : ℕ → ℕ → List ℕ
+acknowledged_words done again = decimal done ++ codes " acknowledged, " ++ decimal again ++ codes " again, "
+
+-- both
 abbrev pub count_words : Option ℕ → Tally → List ℕ
-count_words total tally =
-    decimal tally.commands ++ total_words total ++ codes " sent, " ++ decimal (acknowledged tally)
-    ++ codes " acknowledged, " ++ decimal tally.again ++ codes " again, "
+count_words total tally = sent_words total tally.commands ++ acknowledged_words (acknowledged tally) tally.again
 
 -- how far a print has come after these seconds, of this number of commands
 abbrev pub progress_words : Option ℕ → ℕ → Tally → List ℕ → List ℕ

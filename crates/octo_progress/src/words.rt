@@ -1,7 +1,7 @@
 //! How far a print has come, in words.
 ghost use Rattle.std.specs.Prelude.{◌≡◌, ◌<◌, ◌≤◌, ◌+◌, ◌++◌, length, decimal};
 ghost use Rattle.arrayvec.specs.ArrayVec.{array_vec_len};
-ghost use Rattle.octo_progress.specs.Progress.{count_words, percent, percent_words, total_words, left_of, left_words, temps_words, progress_words, tenth_of};
+ghost use Rattle.octo_progress.specs.Progress.{acknowledged_words, count_words, sent_words, percent, percent_words, total_words, left_of, left_words, temps_words, progress_words, tenth_of};
 ghost use Rattle.octo_log.specs.declared.line.TheConstants.{MOST_LOG_BYTES};
 
 use crate::shown::Words;
@@ -98,19 +98,37 @@ fn append_temps(words: &mut Words, temps: &[u8])
     }
 }
 
+// Adds how many commands were sent.
+fn append_sent(words: &mut Words, total: Option<u32>, commands: u64)
+    requires { array_vec_len words.old ≤ 30 }
+    ensures items { words.new.items ≡ words.old.items ++ sent_words total commands }
+    ensures few { array_vec_len words.new ≤ array_vec_len words.old + 60 }
+{
+    append_count(words, commands);
+    append_total(words, total);
+    append(words, b" sent, ");
+}
+
+// Adds how many commands are acknowledged, and how many lines were sent again.
+fn append_acknowledged(words: &mut Words, done: u64, again: u64)
+    requires { array_vec_len words.old ≤ 90 }
+    ensures items { words.new.items ≡ words.old.items ++ acknowledged_words done again }
+    ensures few { array_vec_len words.new ≤ array_vec_len words.old + 70 }
+{
+    append_count(words, done);
+    append(words, b" acknowledged, ");
+    append_count(words, again);
+    append(words, b" again, ");
+}
+
 // Adds how many commands were sent and acknowledged, and how many lines were sent again.
 fn append_counts(words: &mut Words, total: Option<u32>, tally: &Tally)
     requires { array_vec_len words.old ≤ 30 }
     ensures items { words.new.items ≡ words.old.items ++ count_words total tally.now }
     ensures few { array_vec_len words.new ≤ array_vec_len words.old + 150 }
 {
-    append_count(words, tally.commands);
-    append_total(words, total);
-    append(words, b" sent, ");
-    append_count(words, tally.acknowledged());
-    append(words, b" acknowledged, ");
-    append_count(words, tally.again);
-    append(words, b" again, ");
+    append_sent(words, total, tally.commands);
+    append_acknowledged(words, tally.acknowledged(), tally.again);
 }
 
 // How far a print has come after these seconds, of this number of commands if it is known.
