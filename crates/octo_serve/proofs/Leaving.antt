@@ -44,7 +44,7 @@ conn_leaves_none : (terms : Terms) (input : List ℕ) (conn : ConnState) (is_ope
     → leaves_made calls ≡ 0
 conn_leaves_none terms input conn is_open calls (no_message fault sent bytes answers cause replied wrote) = refl
 conn_leaves_none terms input conn is_open calls (message m sent reply is made says replied wrote) =
-    asks_leave_none made (leads_asks made (leads_to m reply is made replied))
+    asks_leave_none made (leads_asks made (leads_to terms.origins m reply is made replied))
 
 walk_leaves_none : (terms : Terms) (inputs : List (List ℕ)) (conns : List ConnState) (is_open : Bool) (calls : History)
     → Served terms inputs conns is_open calls → leaves_made calls ≡ 0

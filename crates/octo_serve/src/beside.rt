@@ -88,7 +88,8 @@ fn two_beside<R: Threads + Wait + Sync, D: Door + Send, A: Asker + Send, G: FnMu
         &mut || -> (bool, B)
             requires { IsSync R.row × IsSend D.row × IsSend D.Conn.row × IsSend A.row
                 × G.pre work.now }
-            ensures second { WorksAt terms.now (door_state D.coming D.served D.faults two.entry.now)
+            ensures second { WorksAt terms.entry.now
+                (door_state D.coming D.served D.faults two.entry.now)
                 (door_state D.coming D.served D.faults two.exit.now)
                 (asker_state A.mine A.saw_close A.place second.entry.now)
                 (asker_state A.mine A.saw_close A.place second.exit.now) result.0 }
@@ -139,10 +140,12 @@ pub(crate) fn four_beside<
         &mut || -> (bool, (bool, B))
             requires { IsSync R.row × IsSend D.row × IsSend D.Conn.row × IsSend R.row
                 × G.pre work.now }
-            ensures third { WorksAt terms.now (door_state D.coming D.served D.faults c.entry.now)
+            ensures third { WorksAt terms.entry.now
+                (door_state D.coming D.served D.faults c.entry.now)
                 (door_state D.coming D.served D.faults c.exit.now)
                 (worker_state third.entry.now) (worker_state third.exit.now) result.0 }
-            ensures fourth { WorksAt terms.now (door_state D.coming D.served D.faults d.entry.now)
+            ensures fourth { WorksAt terms.entry.now
+                (door_state D.coming D.served D.faults d.entry.now)
                 (door_state D.coming D.served D.faults d.exit.now)
                 (worker_state fourth.entry.now) (worker_state fourth.exit.now) result.1.0 }
             ensures work { G.step work.entry.now result.1.1 work.exit.now }
