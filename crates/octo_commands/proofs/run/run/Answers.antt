@@ -21,8 +21,8 @@ returns-in-Some-clause-causes g c = record {
 pub returns-in-Some-clause-output : goal.returns-in-Some-clause-output
 returns-in-Some-clause-output g c = other_host c.host.result.report c.host.ensures.refusal
 
-pub returns-clause-comes : goal.returns-clause-comes
-returns-clause-comes g c =
+pub returns-in-None-clause-comes : goal.returns-in-None-clause-comes
+returns-in-None-clause-comes g c =
     carried_out c.in-Ok.command c.carry_out-report.result c.in-Ok.ensures.read (ap (λ (h : HostEnd). h.report) c.unserved.ensures)
     c.carry_out-report.ensures.reports c.carry_out-report.ensures.waited
     (record {
