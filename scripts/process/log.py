@@ -57,7 +57,7 @@ def evening(folder):
     with open(host.settings) as settings:
         text = settings.read()
     with open(host.settings, "w") as settings:
-        settings.write(text.replace("limit_ms = 5000", "limit_ms = 200"))
+        settings.write(text.replace("limit_ms = 5000", "limit_ms = 1000"))
     host.start()
     try:
         host.connect()
