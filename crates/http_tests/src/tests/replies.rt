@@ -55,6 +55,7 @@ fn fields_before_others(rt: HostRuntime) -> Result<(), Fail> {
     let alloc = rt.alloc();
     let mut conn = conn_of(alloc, b"")?;
     let mut reply = is_printing(alloc)?;
+    reply.fields = FieldLines::new();
     append(&mut reply.fields, b"Allow: GET\r\n");
     let mut more = FieldLines::new();
     append(&mut more, b"Vary: Origin\r\n");
