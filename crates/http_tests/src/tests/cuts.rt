@@ -35,7 +35,7 @@ fn ends(rt: &impl Abort, alloc: Global, input: &[u8], target: usize) -> Result<(
         let is_none = end <= target && fault == Some(MessageFault::BadHead);
         assert!(rt;
             is_none || fault == Some(MessageFault::Ended),
-            "cut at {end}"
+            "cut at {end}: {fault:?}"
         );
     }
     Ok(())

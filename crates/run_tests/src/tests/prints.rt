@@ -1,6 +1,7 @@
 //! Runs in which a file is printed.
 use super::*;
 use job_desk::{LinkFact, State};
+use octo_asks::StoredCause;
 use octo_keeper::KeeperFault;
 use print_queue::Outcome;
 use std::alloc::Global;
@@ -62,6 +63,27 @@ fn has_printing(ran: &Ran) -> bool {
     false
 }
 
+// What kept an upload from its print, if memory ran out or a call failed.
+fn cause_of(ran: &Ran) -> &'static str {
+    if ran.entries().is_empty() {
+        return "no memory for the history";
+    }
+    for place in 0..ran.entries().len() {
+        match ran.entry(place) {
+            Some(SeenEntry::Call(_, _, Seen::NoMemory)) => return "out of memory",
+            Some(SeenEntry::Call(_, _, Seen::Stored(StoredCause::NoMemory))) => {
+                return "Stored, NoMemory";
+            }
+            Some(SeenEntry::Call(_, _, Seen::Stored(StoredCause::KeeperFault))) => {
+                return "keeper failed";
+            }
+            Some(SeenEntry::Note(LinkFact::Failed)) => return "link failed",
+            _ => {}
+        }
+    }
+    "another outcome"
+}
+
 // An upload that asks for both is selected and printed, while the printer is operational.
 #[test]
 fn upload_prints(rt: HostRuntime) {
@@ -70,8 +92,8 @@ fn upload_prints(rt: HostRuntime) {
     leave(&rt, rt.alloc(), &mut asks);
     let ran = Ran::over(&rt, rt.alloc(), asks, &[]);
     assert_eq!(rt; ran.calls(), 23);
-    assert!(rt; has_upload(&ran));
-    assert!(rt; has_printing(&ran));
+    assert!(rt; has_upload(&ran), "{}", cause_of(&ran));
+    assert!(rt; has_printing(&ran), "{}", cause_of(&ran));
     ran.end();
 }
 

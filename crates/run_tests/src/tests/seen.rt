@@ -1,6 +1,6 @@
 //! What a test sees of a history.
 use job_desk::{LinkFact, State};
-use octo_asks::{Answer, Entry, PrintRefusal};
+use octo_asks::{Answer, Entry, PrintRefusal, StoredCause};
 
 // An answer by its plain values, if a test compares it.
 #[derive(Clone, Copy)]
@@ -12,6 +12,9 @@ pub(super) enum Seen {
     // Whether the file was selected, and its print started.
     Uploaded(bool, bool),
     Unprinted(bool, PrintRefusal),
+    // A file was stored and selected, and its print not started.
+    Stored(StoredCause),
+    NoMemory,
     Other,
 }
 
@@ -36,6 +39,8 @@ fn seen_of(answer: &Answer) -> Seen {
             refusal,
             ..
         } => Seen::Unprinted(*select, *refusal),
+        Answer::Stored { cause, .. } => Seen::Stored(*cause),
+        Answer::NoMemory => Seen::NoMemory,
         _ => Seen::Other,
     }
 }
