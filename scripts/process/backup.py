@@ -13,6 +13,10 @@ from serving import LIMIT, Host, exchange, free_port, message, until  # noqa: E4
 
 TOOL = "crates/keeper_tool/out/keeper_tool"
 PATH = "/api/system/commands/core/backup"
+# The calls that open, change or sync files; strace passes over one that the system lacks.
+CALLS = ("openat", "write", "pwrite64", "ftruncate", "fsync", "fdatasync", "?rename", "renameat", "renameat2", "?unlink", "unlinkat")
+# How often a host is killed at one of them at most: a log is written by many.
+MOST = 12
 # How many records are added before a host is killed by time, so that its backup takes a while.
 PRINTS = 5000
 failed = False
@@ -154,10 +158,10 @@ def cannot_trace():
     return None if run.returncode == 0 else "strace may not trace here"
 
 
-def killed_at(host, number):
-    """Kills the host at the call of this number on the copy, its parts or its folder; returns whether the backup had fewer."""
+def killed_at(host, call, number):
+    """Kills the host at such a call of this number on the copy, its parts or the folder; returns whether the backup had fewer."""
     paths = [host.database + ending for ending in (".backup", ".backup.part", ".backup.part-wal", ".backup-wal")]
-    words = ["strace", "-f", "-o", os.devnull, "-e", "trace=all", "-e", "inject=all:signal=KILL:when=%d" % number]
+    words = ["strace", "-f", "-o", os.devnull, "-e", "trace=" + call, "-e", "inject=%s:signal=KILL:when=%d" % (call, number)]
     for path in [host.folder, *paths]:
         words += ["-P", path]
     tracer = subprocess.Popen([*words, "-p", str(host.process.pid)], stderr=subprocess.PIPE)
@@ -172,23 +176,28 @@ def killed_at(host, number):
     return status == 204
 
 
+def kills_at(folder, host, users, call, keeps_copy):
+    """Kills the host at each such call of a backup, over a former copy or without: how often, and whether all was as it has to be."""
+    sound = True
+    for number in range(1, MOST + 1):
+        if not keeps_copy and ".backup" in beside(host):
+            os.remove(host.database + ".backup")
+        if killed_at(host, call, number):
+            return number - 1, sound and beside(host) == [".backup"]
+        sound = after_kill(folder, host, users) and sound and (not keeps_copy or ".backup" in beside(host))
+    return MOST, sound
+
+
 def killed_at_each_call(folder, host, users):
-    """A kill at each call of a backup, with and without a former copy."""
+    """Kills at the calls of a backup, with and without a former copy."""
     why = cannot_trace()
     if why:
         print("skipped: kills at each call of a backup: " + why, flush=True)
         return
-    for name in ("without a former copy", "over a former copy"):
-        number, sound = 1, True
-        if name.startswith("without"):
-            os.remove(host.database + ".backup")
-        while number < 400 and not killed_at(host, number):
-            sound = after_kill(folder, host, users) and sound
-            if name.startswith("without") and ".backup" in beside(host):
-                os.remove(host.database + ".backup")
-            number += 1
-        check("a kill at each of %d calls of a backup %s" % (number - 1, name), (sound, 10 < number < 400), (True, True))
-        check("the backup at which none is left", (beside(host), is_sound(taken(host, folder, "last"))), ([".backup"], True))
+    for name, calls, keeps_copy in (("over a former copy", CALLS, True), ("without one", ("fsync", "?rename", "renameat", "renameat2"), False)):
+        found = [kills_at(folder, host, users, call, keeps_copy) for call in calls]
+        check("kills at %d calls of backups %s" % (sum(count for count, _ in found), name), all(sound for _, sound in found), True)
+        check("there are such calls", sum(count for count, _ in found) > 5, True)
 
 
 def killed_by_time(folder, host, users):
