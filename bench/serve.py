@@ -76,6 +76,7 @@ def host(name, port):
     folder = os.path.join(FOLDER, name)
     os.makedirs(folder)
     made = Host(folder, port, SLOW)
+    made.errors = os.devnull
     text = open(made.settings).read().replace("limit_ms = 5000", "limit_ms = 600000").replace("poll_ms = 1000", "poll_ms = 600000")
     open(made.settings, "w").write(text)
     return made.start()

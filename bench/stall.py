@@ -4,8 +4,8 @@ import os
 import socket
 import sqlite3
 import statistics
+import subprocess
 import sys
-import threading
 import time
 
 FOLDER, ROUNDS = sys.argv[1], int(sys.argv[2])
@@ -26,26 +26,15 @@ LINES, SECONDS = 6000, 15
 
 
 class Callers:
-    """Some callers that ask the same again and again, until they are ended."""
+    """Some callers that ask the same again and again, until they are ended. They are a process of their own: the printer is in this one."""
 
     def __init__(self, octo, path, count):
-        self.octo, self.path = octo, path
-        self.ends = False
-        self.calls = 0
-        self.threads = [threading.Thread(target=self.run, daemon=True) for _ in range(count)]
-        for thread in self.threads:
-            thread.start()
-
-    def run(self):
-        while not self.ends:
-            if self.octo.ask("GET", self.path).status != 200:
-                raise SystemExit("refused: " + self.path)
-            self.calls += 1
+        words = [os.path.join(FOLDER, "plain_load"), str(octo.port), str(count), "60", "200", path, octo.key]
+        self.process = subprocess.Popen(words, stdout=subprocess.DEVNULL)
 
     def end(self):
-        self.ends = True
-        for thread in self.threads:
-            thread.join()
+        self.process.kill()
+        self.process.wait()
 
 
 def print_rate(octo, peer, name):
@@ -64,17 +53,15 @@ def print_rate(octo, peer, name):
 def prints_beside(octo, peer, name, path, count):
     """Lines a second of a print alone, and beside these callers, by turns."""
     rates = {False: [], True: []}
-    calls = 0
     for number in range(ROUNDS):
         for beside in (False, True):
             callers = Callers(octo, path, count) if beside else None
             rates[beside].append(print_rate(octo, peer, "%s%d%d.gcode" % (name, number, beside)))
             if callers:
                 callers.end()
-                calls += callers.calls
             until("the print is over", lambda: octo.state() == "Operational", pause=0.05)
     alone, beside = (statistics.median(rates[kind]) for kind in (False, True))
-    print("a print beside %d x GET %s: %.0f of %.0f lines a second, %.1f %% lost, %d calls; load %s" % (count, path, beside, alone, 100 * (1 - beside / alone), calls, load()), flush=True)
+    print("a print beside %d x GET %s: %.0f of %.0f lines a second, %.1f %% lost; load %s" % (count, path, beside, alone, 100 * (1 - beside / alone), load()), flush=True)
 
 
 def answers_beside(octo, what, connections):
