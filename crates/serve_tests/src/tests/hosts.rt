@@ -113,6 +113,7 @@ impl HostBench {
             &mut self.keeper,
             &mut self.shelf,
             &mut self.doors,
+            MemorySink::new(alloc, CallList::new(alloc)),
         )
     }
 
