@@ -1,5 +1,5 @@
 //! A run that has ended.
-ghost use Rattle.std.specs.Prelude.{◌≡◌};
+ghost use Rattle.std.specs.Prelude.{◌≡◌, false, None};
 ghost use Rattle.octo_asks.specs.Memory.{new_counter};
 
 use super::seen::{Seen, SeenEntry, entry_of, own_moment};
@@ -97,7 +97,10 @@ impl Ran {
         mut link: MemoryLink,
         clock: &mut T,
         connects: bool,
-    ) -> Ran {
+    ) -> Ran
+        requires answered { counter.counter.given ≡ None }
+        requires open { counter.counter.closed ≡ false }
+    {
         let mut keeper = keeper_of(alloc, no_rows(alloc), fails).expect(rt, "no memory");
         let mut shelf = shelf_of(alloc, &[]).expect(rt, "no memory");
         let mut house = house_of(alloc, "any", 30_000, &mut keeper, &mut shelf).expect(
