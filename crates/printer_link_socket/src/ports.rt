@@ -8,7 +8,7 @@ use octo_outside_sockets::{SocketStream, linger, prepare, unix_path};
 use std::alloc::Global;
 use std::fs::File;
 use std::io;
-use std::io::{Eprint, Read, Write};
+use std::io::{Eprint, ErrorKind, Read, Write};
 use std::net::{Net, OpenStream, SocketAddr, TcpStream, ToSocketAddrs};
 use std::os::fd::{AsRawFd, RawFd};
 use std::os::unix::net::UnixStream;
@@ -88,48 +88,63 @@ impl<R: Drop> SystemPorts<R> {
     }
 }
 
-// The addresses that are tried.
-fn addresses_of<R: Net>(rt: &R, alloc: Global, name: &str) -> Option<Vec<SocketAddr>> {
-    let mut addresses = Vec::new(alloc);
-    for address in name.to_socket_addrs(rt).ok()?.take(ADDRESSES) {
-        addresses.push(address).ok()?;
+impl<R: Net + Eprint + Drop> SystemPorts<R> {
+    // Connects over a socket. If that fails, the standard error says why.
+    fn connect(&self, name: &str) -> Option<PortStream<SocketStream<R::Stream>, TtyStream<File>>> {
+        match connect(&self.rt, self.alloc, name) {
+            Ok(stream) => Some(PortStream::Socket(stream)),
+            Err(fault) => {
+                let _ = eprintln!(self.rt; "octo: {name}: {fault}");
+                None
+            }
+        }
     }
-    Some(addresses)
 }
 
-// Connects over TCP to an address; `None` if no peer accepts in time. Each address has an equal part of the time.
-fn connect_address<R: Net>(rt: &R, alloc: Global, name: &str) -> Option<R::Stream> {
+// The addresses that are tried.
+fn addresses_of<R: Net>(rt: &R, alloc: Global, name: &str) -> io::Result<Vec<SocketAddr>> {
+    let mut addresses = Vec::new(alloc);
+    for address in name.to_socket_addrs(rt)?.take(ADDRESSES) {
+        addresses.push(address)?;
+    }
+    Ok(addresses)
+}
+
+// Connects over TCP to an address; an error if no peer accepts in time. Each address has an equal part of the time.
+fn connect_address<R: Net>(rt: &R, alloc: Global, name: &str) -> io::Result<R::Stream> {
     let addresses = addresses_of(rt, alloc, name)?;
     let count = addresses.len().max(1) as u64;
     let timeout = Duration::from_millis(CONNECT / count);
+    let mut fault = io::Error::from(ErrorKind::AddrNotAvailable);
     for address in addresses.as_slice() {
-        if let Ok(stream) = TcpStream::connect_timeout(rt, address, timeout) {
-            return Some(stream);
+        match TcpStream::connect_timeout(rt, address, timeout) {
+            Ok(stream) => return Ok(stream),
+            Err(error) => fault = error,
         }
     }
-    None
+    Err(fault)
 }
 
-// Connects over a socket; `None` if no peer accepts. A Unix socket accepts at once or not at all.
-fn connect<R: Net>(rt: &R, alloc: Global, name: &str) -> Option<SocketStream<R::Stream>> {
+// Connects over a socket; an error if no peer accepts. A Unix socket accepts at once or not at all.
+fn connect<R: Net>(rt: &R, alloc: Global, name: &str) -> io::Result<SocketStream<R::Stream>> {
     let stream = match unix_path(name) {
-        Some(path) => SocketStream::Unix(UnixStream::connect(rt, path).ok()?),
+        Some(path) => SocketStream::Unix(UnixStream::connect(rt, path)?),
         None => SocketStream::Tcp(connect_address(rt, alloc, name)?),
     };
-    prepare(&stream).ok()?;
+    prepare(&stream)?;
     let wait = Some(Duration::from_millis(READ));
-    stream.set_read_timeout(wait).ok()?;
-    Some(stream)
+    stream.set_read_timeout(wait)?;
+    Ok(stream)
 }
 
 impl<R: Net + Files<File = File> + Processes + Clock + Eprint + Drop> Dial for SystemPorts<R> {
     type Stream = PortStream<SocketStream<R::Stream>, TtyStream<File>>;
 
-    /// Connects over a socket, trying at most 4 addresses for about 2 seconds in all, or opens a serial device. If a device can't be used,
-    /// the standard error says why.
+    /// Connects over a socket, trying at most 4 addresses for about 2 seconds in all, or opens a serial device. If that fails, the standard
+    /// error says why.
     fn open(&mut self, name: &str) -> Option<Self::Stream> {
         let Some(device) = device_of(name) else {
-            return Some(PortStream::Socket(connect(&self.rt, self.alloc, name)?));
+            return self.connect(name);
         };
         match TtyStream::open(&self.rt, self.alloc, &device) {
             Ok(stream) => Some(PortStream::Tty(stream)),
