@@ -1,4 +1,5 @@
 pub mod Coming
+pub mod Lost
 pub mod Pieces
 pub mod Places
 pub mod Serving

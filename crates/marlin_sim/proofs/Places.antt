@@ -1,13 +1,13 @@
 -- The places that a word lists.
 use Rattle.std.proofs.Common.{◌≡◌, ℕ, ◌≤◌, Bool, true, false, List, [], ◌∷◌, refl, sym, ◌∙◌, ap, subst, arith, lit≤, codes}
-use Rattle.std.specs.Prelude.{if◌then◌else◌, nat_le, nat_lt, Option, Some, None, option_map, Result, Ok, Err, IfOk, IfSome}
+use Rattle.std.specs.Prelude.{◌≢◌, length, slice_get, if◌then◌else◌, nat_le, nat_lt, Option, Some, None, option_map, Result, Ok, Err, IfOk, IfSome}
 use Rattle.std.specs.List.{list_all, slice_split}
 use Rattle.std.specs.Str.{bytes_eq}
 use Rattle.std.proofs.lemmas.Bool.{and_parts, and_from, cond_both}
 use Rattle.std.proofs.lemmas.Bool.Decides.{nat_tests}
 use Rattle.byte_text.specs.Number.{only_if, number_in, whole_number}
 use Rattle.marlin_sim.specs.declared.plan.SimPlan.{SimPlan}
-use Rattle.marlin_sim.specs.Plan.{count_in, place_in, with_place, places_above, places_in, is_comma, is_places, is_place, is_address, plan_with, plan_of, IsPlan}
+use Rattle.marlin_sim.specs.Plan.{count_in, place_in, with_place, places_above, places_in, is_comma, is_places, is_place, is_address, plan_with, plan_by, plan_of, IsPlan}
 
 -- the places of a word that is cut at its commas
 pub places_cut : {E : Type 0} (word : List ℕ) (pieces : List (List ℕ)) (result : Result (Option (List ℕ)) E) → bytes_eq word (codes "-") ≡ false
@@ -77,14 +77,28 @@ unfolding fits
 count_fits None = tt
 count_fits (Some n) = cond_both (is_places n) (Some n) None fits (λ is. places_fit n is) (λ _. tt)
 
-with_plan : (last slots : Option ℕ) (dropped corrupted : Option (List ℕ)) → fits slots → bounded dropped → bounded corrupted → IfSome (plan_with last slots dropped corrupted) IsPlan
+with_plan : (last slots : Option ℕ) (dropped corrupted : Option (List ℕ)) (numbered : Bool) (lost : Option (List ℕ)) → fits slots → bounded dropped → bounded corrupted →
+    bounded lost → IfSome (plan_with last slots dropped corrupted numbered lost) IsPlan
 unfolding fits bounded
-with_plan None slots dropped corrupted count first second = tt
-with_plan (Some last) None dropped corrupted count first second = tt
-with_plan (Some last) (Some slots) None corrupted count first second = tt
-with_plan (Some last) (Some slots) (Some dropped) None count first second = tt
-with_plan (Some last) (Some slots) (Some dropped) (Some corrupted) count first second =
-    record { some = count.0; few = count.1; dropped = first; corrupted = second; turns = lit≤ tt }
+with_plan None slots dropped corrupted numbered lost count first second third = tt
+with_plan (Some last) None dropped corrupted numbered lost count first second third = tt
+with_plan (Some last) (Some slots) None corrupted numbered lost count first second third = tt
+with_plan (Some last) (Some slots) (Some dropped) None numbered lost count first second third = tt
+with_plan (Some last) (Some slots) (Some dropped) (Some corrupted) numbered None count first second third = tt
+with_plan (Some last) (Some slots) (Some dropped) (Some corrupted) numbered (Some lost) count first second third =
+    record { some = count.0; few = count.1; dropped = first; corrupted = second; lost = third; turns = lit≤ tt }
+
+-- so are no places
+none_bounded : bounded (Some [])
+unfolding bounded
+none_bounded = refl
+
+five_given : (numbered : Bool) (lost : Option (List ℕ)) (address last slots dropped corrupted : List ℕ) (more : List (List ℕ)) → bounded lost →
+    IfSome (plan_by numbered lost (address ∷ last ∷ slots ∷ dropped ∷ corrupted ∷ more)) IsPlan
+five_given numbered lost address last slots dropped corrupted more few =
+    cond_both (is_address address) (plan_with (number_in last) (count_in slots) (places_in dropped) (places_in corrupted) numbered lost) None (λ plan. IfSome plan IsPlan)
+    (λ _. with_plan (number_in last) (count_in slots) (places_in dropped) (places_in corrupted) numbered lost (count_fits (number_in slots)) (word_bounded dropped) (word_bounded corrupted) few)
+    (λ _. tt)
 
 -- what the arguments say is a plan
 pub plan_given : (words : List (List ℕ)) → IfSome (plan_of words) IsPlan
@@ -93,11 +107,62 @@ plan_given (a ∷ []) = tt
 plan_given (a ∷ b ∷ []) = tt
 plan_given (a ∷ b ∷ c ∷ []) = tt
 plan_given (a ∷ b ∷ c ∷ d ∷ []) = tt
-plan_given (address ∷ last ∷ slots ∷ dropped ∷ corrupted ∷ []) =
-    cond_both (is_address address) (plan_with (number_in last) (count_in slots) (places_in dropped) (places_in corrupted)) None (λ plan. IfSome plan IsPlan)
-    (λ _. with_plan (number_in last) (count_in slots) (places_in dropped) (places_in corrupted) (count_fits (number_in slots)) (word_bounded dropped) (word_bounded corrupted))
-    (λ _. tt)
-plan_given (a ∷ b ∷ c ∷ d ∷ e ∷ f ∷ more) = tt
+plan_given (a ∷ b ∷ c ∷ d ∷ e ∷ []) = five_given false (Some []) a b c d e [] none_bounded
+plan_given (a ∷ b ∷ c ∷ d ∷ e ∷ f ∷ []) = five_given true (places_in f) a b c d e (f ∷ []) (word_bounded f)
+plan_given (a ∷ b ∷ c ∷ d ∷ e ∷ f ∷ g ∷ more) = tt
+
+-- arguments by their number
+pub of_five : (words : List (List ℕ)) → length words ≡ 5 → plan_of words ≡ plan_by false (Some []) words
+of_five [] five = absurd (omega arith)
+of_five (a ∷ []) five = absurd (omega arith)
+of_five (a ∷ b ∷ []) five = absurd (omega arith)
+of_five (a ∷ b ∷ c ∷ []) five = absurd (omega arith)
+of_five (a ∷ b ∷ c ∷ d ∷ []) five = absurd (omega arith)
+of_five (a ∷ b ∷ c ∷ d ∷ e ∷ []) five = refl
+of_five (a ∷ b ∷ c ∷ d ∷ e ∷ f ∷ more) five = absurd (omega arith)
+
+pub of_six : (words : List (List ℕ)) (word : List ℕ) → length words ≡ 6 → slice_get words 5 ≡ Some word → plan_of words ≡ plan_by true (places_in word) words
+of_six [] word six is = absurd (omega arith)
+of_six (a ∷ []) word six is = absurd (omega arith)
+of_six (a ∷ b ∷ []) word six is = absurd (omega arith)
+of_six (a ∷ b ∷ c ∷ []) word six is = absurd (omega arith)
+of_six (a ∷ b ∷ c ∷ d ∷ []) word six is = absurd (omega arith)
+of_six (a ∷ b ∷ c ∷ d ∷ e ∷ []) word six is = absurd (omega arith)
+of_six (a ∷ b ∷ c ∷ d ∷ e ∷ f ∷ []) word six is =
+    let same : f ≡ word = cc in
+    ap (λ (w : List ℕ). plan_by true (places_in w) (a ∷ b ∷ c ∷ d ∷ e ∷ f ∷ [])) same
+of_six (a ∷ b ∷ c ∷ d ∷ e ∷ f ∷ g ∷ more) word six is = absurd (omega arith)
+
+none_by : (numbered : Bool) (words : List (List ℕ)) → plan_by numbered None words ≡ None
+none_by numbered [] = refl
+none_by numbered (a ∷ []) = refl
+none_by numbered (a ∷ b ∷ []) = refl
+none_by numbered (a ∷ b ∷ c ∷ []) = refl
+none_by numbered (a ∷ b ∷ c ∷ d ∷ []) = refl
+none_by numbered (a ∷ b ∷ c ∷ d ∷ e ∷ more) =
+    cond_both (is_address a) (plan_with (number_in b) (count_in c) (places_in d) (places_in e) numbered None) None (λ plan. plan ≡ None)
+    (λ _. none_with (number_in b) (count_in c) (places_in d) (places_in e) numbered) (λ _. refl)
+  where
+    none_with : (last slots : Option ℕ) (dropped corrupted : Option (List ℕ)) (numbered : Bool) → plan_with last slots dropped corrupted numbered None ≡ None
+    none_with None slots dropped corrupted numbered = refl
+    none_with (Some last) None dropped corrupted numbered = refl
+    none_with (Some last) (Some slots) None corrupted numbered = refl
+    none_with (Some last) (Some slots) (Some dropped) None numbered = refl
+    none_with (Some last) (Some slots) (Some dropped) (Some corrupted) numbered = refl
+
+pub of_six_none : (words : List (List ℕ)) (word : List ℕ) → length words ≡ 6 → slice_get words 5 ≡ Some word → places_in word ≡ None → plan_of words ≡ None
+of_six_none words word six is none =
+    of_six words word six is ∙ ap (λ (lost : Option (List ℕ)). plan_by true lost words) none ∙ none_by true words
+
+pub of_others : (words : List (List ℕ)) → length words ≢ 5 → length words ≢ 6 → plan_of words ≡ None
+of_others [] five six = refl
+of_others (a ∷ []) five six = refl
+of_others (a ∷ b ∷ []) five six = refl
+of_others (a ∷ b ∷ c ∷ []) five six = refl
+of_others (a ∷ b ∷ c ∷ d ∷ []) five six = refl
+of_others (a ∷ b ∷ c ∷ d ∷ e ∷ []) five six = absurd (five refl)
+of_others (a ∷ b ∷ c ∷ d ∷ e ∷ f ∷ []) five six = absurd (six refl)
+of_others (a ∷ b ∷ c ∷ d ∷ e ∷ f ∷ g ∷ more) five six = refl
 
 -- and so is what was read of them
 pub plan_read : {E : Type 0} (words : List (List ℕ)) (result : Result (Option SimPlan) E) → IfOk result (λ plan. plan ≡ plan_of words) → IfOk result (λ plan. IfSome plan IsPlan)

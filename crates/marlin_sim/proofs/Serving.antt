@@ -12,9 +12,9 @@ use Rattle.marlin_sim.specs.declared.serve.Next.TheVariants as next
 use Rattle.marlin_sim.specs.declared.plan.SimPlan.{SimPlan}
 use Rattle.marlin_sim.specs.Lines.{to_come, planned, with_begun, whole_lines}
 use Rattle.marlin_sim.proofs.Coming.{with_begun-none}
-use Rattle.marlin_sim.specs.Run.{SimWorld, start_text, IsRunOf, world_at, written_text}
+use Rattle.marlin_sim.specs.Run.{SimWorld, start_text, IsRunOf, first_world, world_at, written_text}
 use Rattle.marlin_sim.specs.Sim.{new_sim, SimData, FollowsModel, Keeps}
-use Rattle.marlin_sim.specs.Served.{Outside, outside, IsServed, IsDone, IsLost, Serves, Going, Breaks, After, Finishes, Ending, Outcome, IsUsed}
+use Rattle.marlin_sim.specs.Served.{Outside, outside, IsServed, IsDone, IsCutOff, IsLost, Serves, Going, Breaks, After, Finishes, Ending, Outcome, IsUsed}
 
 -- an addition, and then the first bytes of another
 prefix_then : (old mid new : Option (List ℕ)) (front behind all : List ℕ) → Adds old mid front → AddsPrefix mid new behind → front ++ behind ≡ all → AddsPrefix old new all
@@ -36,13 +36,13 @@ world_followed : (plan : SimPlan) (input rest : List ℕ) (s : SimData) (wrote p
 world_followed plan input rest s wrote printed t = world_at s.printer s.below t.log (to_come plan s.lines rest) t.down
 
 -- the replies were written
-pub sent_going : (plan : SimPlan) (input : List ℕ) (first : Outside) (left wrote wrote' printed : Option (List ℕ)) (s : SimData) → Serves plan input first (outside left wrote printed) s → Adds wrote wrote' s.replies → Going plan input first (outside left wrote' printed) (record s { replies = [] })
+pub sent_going : (plan : SimPlan) (input : List ℕ) (first : Outside) (left wrote wrote' printed : Option (List ℕ)) (s : SimData) → Serves plan input first (outside left wrote printed) s → Adds wrote wrote' s.replies.text → Going plan input first (outside left wrote' printed) (record s { replies = record s.replies { text = [] } })
 sent_going plan input first left wrote wrote' printed s v added =
     record {
       serves = record {
         rest = v.rest;
         left = v.left;
-        wrote = v.wrote ++ s.replies;
+        wrote = v.wrote ++ s.replies.text;
         wrote_is = adds_then _ _ _ _ _ v.wrote_is added;
         printed = v.printed;
         printed_is = v.printed_is;
@@ -52,7 +52,9 @@ sent_going plan input first left wrote wrote' printed s v added =
           log = v.follows_model.log;
           down = v.follows_model.down;
           is = v.follows_model.is;
-          wrote_is = v.follows_model.wrote_is ∙ sym (append-nil (v.wrote ++ s.replies));
+          lost_is = v.follows_model.lost_is;
+          next_is = v.follows_model.next_is;
+          wrote_is = v.follows_model.wrote_is ∙ sym (append-nil (v.wrote ++ s.replies.text));
           printed_is = v.follows_model.printed_is;
         };
       };
@@ -64,12 +66,12 @@ run_followed : (plan : SimPlan) (input rest : List ℕ) (s : SimData) (wrote pri
 run_followed plan input rest s wrote printed t = record { events = t.events; steps = t.steps; is = t.is }
 
 -- the connection failed in the midst of the replies
-pub sent_breaks : (plan : SimPlan) (input : List ℕ) (first : Outside) (left left' wrote wrote' printed : Option (List ℕ)) (s : SimData) → Serves plan input first (outside left wrote printed) s → AddsPrefix wrote wrote' s.replies → Breaks plan input first (outside left' wrote' printed) s
+pub sent_breaks : (plan : SimPlan) (input : List ℕ) (first : Outside) (left left' wrote wrote' printed : Option (List ℕ)) (s : SimData) → Serves plan input first (outside left wrote printed) s → AddsPrefix wrote wrote' s.replies.text → Breaks plan input first (outside left' wrote' printed) s
 sent_breaks plan input first left left' wrote wrote' printed s v added =
     record {
       w = world_at s.printer s.below v.follows_model.log (to_come plan s.lines v.rest) v.follows_model.down;
       run = run_followed plan input v.rest s v.wrote v.printed v.follows_model;
-      wrote = prefix_then _ _ _ v.wrote s.replies _ v.wrote_is added (sym v.follows_model.wrote_is);
+      wrote = prefix_then _ _ _ v.wrote s.replies.text _ v.wrote_is added (sym v.follows_model.wrote_is);
       printed = v.printed;
       printed_is = v.printed_is;
       text = v.follows_model.printed_is;
@@ -81,10 +83,34 @@ cut_breaks plan input first left left' wrote printed s v =
     record {
       w = world_at s.printer s.below v.follows_model.log (to_come plan s.lines v.rest) v.follows_model.down;
       run = run_followed plan input v.rest s v.wrote v.printed v.follows_model;
-      wrote = prefix_of _ _ v.wrote s.replies _ v.wrote_is v.follows_model.wrote_is;
+      wrote = prefix_of _ _ v.wrote s.replies.text _ v.wrote_is v.follows_model.wrote_is;
       printed = v.printed;
       printed_is = v.printed_is;
       text = v.follows_model.printed_is;
+    }
+
+-- memory ran out, and what is to be printed is as before
+pub held_breaks : (plan : SimPlan) (input rest wrote printed : List ℕ) (first : Outside) (left o p : Option (List ℕ)) (s s' : SimData) → Adds first.wrote o wrote → Adds first.printed p printed
+    → FollowsModel plan input rest s wrote printed → s'.text ≡ s.text → Breaks plan input first (outside left o p) s'
+held_breaks plan input rest wrote printed first left o p s s' wrote_is printed_is t same =
+    record {
+      w = world_at s.printer s.below t.log (to_come plan s.lines rest) t.down;
+      run = run_followed plan input rest s wrote printed t;
+      wrote = prefix_of _ _ wrote s.replies.text _ wrote_is t.wrote_is;
+      printed = printed;
+      printed_is = printed_is;
+      text = t.printed_is ∙ ap (λ (l : List ℕ). printed ++ l) (sym same);
+    }
+
+-- memory ran out before anything was done
+pub nothing_cut : (plan : SimPlan) (input : List ℕ) (left wrote printed : Option (List ℕ)) → IsCutOff plan input (outside left wrote printed) (outside left wrote printed)
+nothing_cut plan input left wrote printed =
+    let all = written_text plan (first_world plan input) in
+    record {
+      w = first_world plan input;
+      run = record { events = []; steps = refl; is = refl };
+      wrote = prefix_of wrote wrote [] all all (adds_none wrote) refl;
+      printed = adds_none printed;
     }
 
 -- the text was printed
@@ -105,6 +131,8 @@ printed_going plan input first left wrote printed printed' s g added =
           log = v.follows_model.log;
           down = v.follows_model.down;
           is = v.follows_model.is;
+          lost_is = v.follows_model.lost_is;
+          next_is = v.follows_model.next_is;
           wrote_is = v.follows_model.wrote_is;
           printed_is = v.follows_model.printed_is ∙ sym (append-nil (v.printed ++ s.text));
         };
@@ -118,7 +146,7 @@ printed_lost plan input first left wrote printed printed' s v added =
     record {
       w = world_at s.printer s.below v.follows_model.log (to_come plan s.lines v.rest) v.follows_model.down;
       run = run_followed plan input v.rest s v.wrote v.printed v.follows_model;
-      wrote = prefix_of _ _ v.wrote s.replies _ v.wrote_is v.follows_model.wrote_is;
+      wrote = prefix_of _ _ v.wrote s.replies.text _ v.wrote_is v.follows_model.wrote_is;
       printed = prefix_then _ _ _ v.printed s.text _ v.printed_is added (sym v.follows_model.printed_is);
     }
 
@@ -132,7 +160,7 @@ served_all plan input first left wrote printed printed' s g added =
     let v = g.serves in
     let Wrote : List ℕ → Type 0 = λ l. Adds first.wrote wrote l in
     let Printed : List ℕ → Type 0 = λ l. Adds first.printed printed' l in
-    let whole : v.wrote ≡ written_text (world_at s.printer s.below v.follows_model.log (to_come plan s.lines v.rest) v.follows_model.down) = sym (v.follows_model.wrote_is ∙ ap (λ (l : List ℕ). v.wrote ++ l) g.clean ∙ append-nil v.wrote) in
+    let whole : v.wrote ≡ written_text plan (world_at s.printer s.below v.follows_model.log (to_come plan s.lines v.rest) v.follows_model.down) = sym (v.follows_model.wrote_is ∙ ap (λ (l : List ℕ). v.wrote ++ l) g.clean ∙ append-nil v.wrote) in
     record {
       w = world_at s.printer s.below v.follows_model.log (to_come plan s.lines v.rest) v.follows_model.down;
       run = run_followed plan input v.rest s v.wrote v.printed v.follows_model;
@@ -149,25 +177,28 @@ done_all plan input first left wrote printed printed' s f added =
     let up : to_come plan s.lines v.rest ≡ [] = ap (to_come plan s.lines) none ∙ append-nil s.lines.waiting ∙ f.idle.waiting in
     record { w = all.w; run = all.run; over = record { up = up; queue = f.idle.queue }; wrote = all.wrote; printed = all.printed }
 
+broken_printed : (plan : SimPlan) (input : List ℕ) (first : Outside) (left wrote printed printed' : Option (List ℕ)) (s : SimData) → Breaks plan input first (outside left wrote printed) s → Adds printed printed' s.text → IsCutOff plan input first (outside left wrote printed')
+broken_printed plan input first left wrote printed printed' s b added =
+    let Printed : List ℕ → Type 0 = λ l. Adds first.printed printed' l in
+    record { w = b.w; run = b.run; wrote = b.wrote; printed = subst Printed (sym b.text) (adds_then _ _ _ _ _ b.printed_is added) }
+
 -- an end whose text was printed
 pub printed_ending : (e : SimEnd) (plan : SimPlan) (input : List ℕ) (first : Outside) (left wrote printed printed' : Option (List ℕ)) (s : SimData) → (e ≡ end.SinkFailed → ⊥) → Ending e plan input first (outside left wrote printed) s → Adds printed printed' s.text → Outcome e plan input first (outside left wrote printed')
 printed_ending end.Done plan input first left wrote printed printed' s other f added = done_all plan input first left wrote printed printed' s f added
 printed_ending end.BadPlan plan input first left wrote printed printed' s other f added = absurd f
-printed_ending end.ConnFailed plan input first left wrote printed printed' s other b added =
-    let Printed : List ℕ → Type 0 = λ l. Adds first.printed printed' l in
-    record { w = b.w; run = b.run; wrote = b.wrote; printed = subst Printed (sym b.text) (adds_then _ _ _ _ _ b.printed_is added) }
+printed_ending end.ConnFailed plan input first left wrote printed printed' s other b added = broken_printed plan input first left wrote printed printed' s b added
 printed_ending end.SinkFailed plan input first left wrote printed printed' s other f added = absurd (other refl)
 printed_ending (end.TurnsUsed turns) plan input first left wrote printed printed' s other g added = served_all plan input first left wrote printed printed' s g added
-printed_ending end.NoMemory plan input first left wrote printed printed' s other f added = tt
+printed_ending end.NoMemory plan input first left wrote printed printed' s other b added = broken_printed plan input first left wrote printed printed' s b added
 
 -- an end whose text wasn't printed whole
-pub lost_ending : (e : SimEnd) (plan : SimPlan) (input : List ℕ) (first : Outside) (left wrote printed printed' : Option (List ℕ)) (s : SimData) → (e ≡ end.SinkFailed → ⊥) → (e ≡ end.NoMemory → ⊥) → Ending e plan input first (outside left wrote printed) s → AddsPrefix printed printed' s.text → IsLost plan input first (outside left wrote printed')
-lost_ending end.Done plan input first left wrote printed printed' s other memory f added = printed_lost plan input first left wrote printed printed' s f.going.serves added
-lost_ending end.BadPlan plan input first left wrote printed printed' s other memory f added = absurd f
-lost_ending end.ConnFailed plan input first left wrote printed printed' s other memory b added = broken_lost plan input first left wrote printed printed' s b added
-lost_ending end.SinkFailed plan input first left wrote printed printed' s other memory f added = absurd (other refl)
-lost_ending (end.TurnsUsed turns) plan input first left wrote printed printed' s other memory g added = printed_lost plan input first left wrote printed printed' s g.serves added
-lost_ending end.NoMemory plan input first left wrote printed printed' s other memory f added = absurd (memory refl)
+pub lost_ending : (e : SimEnd) (plan : SimPlan) (input : List ℕ) (first : Outside) (left wrote printed printed' : Option (List ℕ)) (s : SimData) → (e ≡ end.SinkFailed → ⊥) → Ending e plan input first (outside left wrote printed) s → AddsPrefix printed printed' s.text → IsLost plan input first (outside left wrote printed')
+lost_ending end.Done plan input first left wrote printed printed' s other f added = printed_lost plan input first left wrote printed printed' s f.going.serves added
+lost_ending end.BadPlan plan input first left wrote printed printed' s other f added = absurd f
+lost_ending end.ConnFailed plan input first left wrote printed printed' s other b added = broken_lost plan input first left wrote printed printed' s b added
+lost_ending end.SinkFailed plan input first left wrote printed printed' s other f added = absurd (other refl)
+lost_ending (end.TurnsUsed turns) plan input first left wrote printed printed' s other g added = printed_lost plan input first left wrote printed printed' s g.serves added
+lost_ending end.NoMemory plan input first left wrote printed printed' s other b added = broken_lost plan input first left wrote printed printed' s b added
 
 -- a step that goes on
 pub after_going : (ran : Bool) (plan : SimPlan) (input : List ℕ) (first now : Outside) (s : SimData) → Going plan input first now s → After (if ran then next.On else next.Over) plan input first now s
@@ -175,13 +206,13 @@ after_going true plan input first now s g = g
 after_going false plan input first now s g = g
 
 -- the same for what a call left
-pub sent : (plan : SimPlan) (input : List ℕ) (first : Outside) (left left' wrote wrote' printed : Option (List ℕ)) (s s' : SimData) → Serves plan input first (outside left wrote printed) s → left' ≡ left → Adds wrote wrote' s.replies → s' ≡ record s { replies = [] } → Going plan input first (outside left' wrote' printed) s'
+pub sent : (plan : SimPlan) (input : List ℕ) (first : Outside) (left left' wrote wrote' printed : Option (List ℕ)) (s s' : SimData) → Serves plan input first (outside left wrote printed) s → left' ≡ left → Adds wrote wrote' s.replies.text → s' ≡ record s { replies = record s.replies { text = [] } } → Going plan input first (outside left' wrote' printed) s'
 sent plan input first left left' wrote wrote' printed s s' v same added after =
     let Left : Option (List ℕ) → Type 0 = λ l. Going plan input first (outside l wrote' printed) s' in
     let Sim : SimData → Type 0 = λ x. Going plan input first (outside left wrote' printed) x in
     subst Left (sym same) (subst Sim (sym after) (sent_going plan input first left wrote wrote' printed s v added))
 
-pub not_sent : (plan : SimPlan) (input : List ℕ) (first : Outside) (left left' wrote wrote' printed : Option (List ℕ)) (s s' : SimData) → Serves plan input first (outside left wrote printed) s → AddsPrefix wrote wrote' s.replies → s' ≡ s → Breaks plan input first (outside left' wrote' printed) s'
+pub not_sent : (plan : SimPlan) (input : List ℕ) (first : Outside) (left left' wrote wrote' printed : Option (List ℕ)) (s s' : SimData) → Serves plan input first (outside left wrote printed) s → AddsPrefix wrote wrote' s.replies.text → s' ≡ s → Breaks plan input first (outside left' wrote' printed) s'
 not_sent plan input first left left' wrote wrote' printed s s' v added same =
     let Sim : SimData → Type 0 = λ x. Breaks plan input first (outside left' wrote' printed) x in
     subst Sim (sym same) (sent_breaks plan input first left left' wrote wrote' printed s v added)
@@ -250,6 +281,8 @@ new_serves plan input left wrote printed follows =
         log = [];
         down = [];
         is = ap (λ (lines : List (List ℕ)). world_at (new_sim plan).printer 0 [] (planned plan 1 lines) []) (sym (with_begun-none (whole_lines input)));
+        lost_is = refl;
+        next_is = refl;
         wrote_is = append-nil start_text;
         printed_is = refl;
       };

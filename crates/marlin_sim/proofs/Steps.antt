@@ -6,6 +6,7 @@ use Rattle.std.proofs.lemmas.List.Concat.{flat_map-append}
 use Rattle.std.proofs.lemmas.List.Sums.{fold-append}
 use Rattle.std.proofs.lemmas.Bool.{and_parts, and_from, cond_both}
 use Rattle.printer_model.specs.Printer.{PrinterData, Entry, RanLine, Logged, is_full, judged, take_judged, take_line, run_queue, run_front, log_line_of, ran_line}
+use Rattle.printer_model.specs.declared.oks.Oks.{Oks}
 use Rattle.printer_model.specs.declared.event.WorldEvent.{WorldEvent}
 use Rattle.printer_model.specs.declared.event.WorldEvent.TheVariants.{Arrive, Run}
 use Rattle.printer_model.specs.declared.printer.Reason.{Reason}
@@ -13,10 +14,10 @@ use Rattle.printer_model.specs.declared.printer.Taken.{Taken}
 use Rattle.printer_model.specs.declared.printer.Taken.TheVariants.{Full}
 use Rattle.marlin_sim.specs.declared.plan.SimPlan.{SimPlan}
 use Rattle.marlin_sim.specs.Lines.{LinesData, to_come, planned, with_begun, whole_lines}
-use Rattle.marlin_sim.specs.Run.{SimWorld, is_step, first_world, world_at, after_taking, sim_apply, sim_from, start_text, printed_line}
+use Rattle.marlin_sim.specs.Run.{SimWorld, is_step, first_world, world_at, after_taking, sim_apply, sim_from, printed_line, number_after}
 use Rattle.marlin_sim.specs.Signed.{given, below_after, signed_replies}
-use Rattle.marlin_sim.specs.Sim.{SimData, FollowsModel, Keeps, Arrived, HasRun, AfterRunning, work}
-use Rattle.octo_outside.specs.Lists.{with_line_feed}
+use Rattle.marlin_sim.proofs.Lost.{number_after-append, more_written}
+use Rattle.marlin_sim.specs.Sim.{RepliesData, with_replies, SimData, FollowsModel, Keeps, Arrived, HasRun, HasRunOnly, AfterRunning, work}
 
 -- one more step
 steps_push : (events : List WorldEvent) (event : WorldEvent) → list_all is_step events ≡ true → is_step event ≡ true → list_all is_step (events ++ event ∷ []) ≡ true
@@ -36,15 +37,15 @@ arrive_world p below log line lines down room =
     ap (λ (b : Bool). cond b w (after_taking w line lines (take_line p (given below line)))) room
 
 -- the front of a queue is run
-run_entry : (last slots : ℕ) (numbered : Bool) (queue : List Entry) (below : ℕ) (log : List Logged) (up down : List (List ℕ)) (ran : RanLine) → (run_queue (record { last = last; slots = slots; numbered = numbered; queue = queue }) queue).0 ≡ Some ran → sim_apply (world_at (record { last = last; slots = slots; numbered = numbered; queue = queue }) below log up down) Run ≡ world_at (run_queue (record { last = last; slots = slots; numbered = numbered; queue = queue }) queue).1 below (log ++ log_line_of ran ∷ []) up (down ++ ran.reply ∷ [])
-run_entry last slots numbered [] below log up down ran is = absurd (cc)
-run_entry last slots numbered (entry ∷ queue) below log up down ran is =
-    let p : PrinterData = record { last = last; slots = slots; numbered = numbered; queue = entry ∷ queue } in
+run_entry : (last slots : ℕ) (oks : Oks) (queue : List Entry) (below : ℕ) (log : List Logged) (up down : List (List ℕ)) (ran : RanLine) → (run_queue (record { last = last; slots = slots; oks = oks; queue = queue }) queue).0 ≡ Some ran → sim_apply (world_at (record { last = last; slots = slots; oks = oks; queue = queue }) below log up down) Run ≡ world_at (run_queue (record { last = last; slots = slots; oks = oks; queue = queue }) queue).1 below (log ++ log_line_of ran ∷ []) up (down ++ ran.reply ∷ [])
+run_entry last slots oks [] below log up down ran is = absurd (cc)
+run_entry last slots oks (entry ∷ queue) below log up down ran is =
+    let p : PrinterData = record { last = last; slots = slots; oks = oks; queue = entry ∷ queue } in
     let same : ran_line p entry ≡ ran = cc in
     ap (λ (r : RanLine). world_at (run_queue p (entry ∷ queue)).1 below (log ++ log_line_of r ∷ []) up (down ++ r.reply ∷ [])) same
 
 pub run_world : (p : PrinterData) (below : ℕ) (log : List Logged) (up down : List (List ℕ)) (ran : RanLine) → (run_front p).0 ≡ Some ran → sim_apply (world_at p below log up down) Run ≡ world_at (run_front p).1 below (log ++ log_line_of ran ∷ []) up (down ++ ran.reply ∷ [])
-run_world p below log up down ran is = run_entry p.last p.slots p.numbered p.queue below log up down ran is
+run_world p below log up down ran is = run_entry p.last p.slots p.oks p.queue below log up down ran is
 
 -- what is written and printed after a step
 added_text : {X : Type 0} (f : X → List ℕ) (start : List ℕ) (xs more : List X) (out rest added : List ℕ) → start ++ flat_map f xs ≡ out ++ rest → added ≡ flat_map f more → start ++ flat_map f (xs ++ more) ≡ out ++ (rest ++ added)
@@ -72,7 +73,9 @@ arrived_follows plan input rest wrote printed old new a t =
       is = sim_from-push (first_world plan input) t.events Arrive
           ∙ ap (λ (w : SimWorld). sim_apply w Arrive) (t.is ∙ ap (λ (u : List (List ℕ)). world_at old.printer old.below t.log u t.down) up)
           ∙ arrive_world old.printer old.below t.log a.line (drop 1 old.lines.waiting ++ later) t.down a.room;
-      wrote_is = added_text with_line_feed start_text t.down replies wrote old.replies (flat_map with_line_feed replies) t.wrote_is refl;
+      lost_is = t.lost_is;
+      next_is = ap (λ (n : ℕ). number_after n replies) t.next_is ∙ sym (number_after-append 1 t.down replies);
+      wrote_is = more_written old.replies plan.lost wrote t.down replies t.lost_is t.next_is t.wrote_is;
       printed_is = t.printed_is;
     })
 
@@ -89,7 +92,9 @@ ran_follows plan input rest wrote printed old new r t =
       is = sim_from-push (first_world plan input) t.events Run
           ∙ ap (λ (w : SimWorld). sim_apply w Run) t.is
           ∙ run_world old.printer old.below t.log (to_come plan old.lines rest) t.down r.ran r.front;
-      wrote_is = added_text with_line_feed start_text t.down (r.ran.reply ∷ []) wrote old.replies (with_line_feed r.ran.reply) t.wrote_is (sym (append-nil (with_line_feed r.ran.reply)));
+      lost_is = t.lost_is;
+      next_is = ap (λ (n : ℕ). number_after n (r.ran.reply ∷ [])) t.next_is ∙ sym (number_after-append 1 t.down (r.ran.reply ∷ []));
+      wrote_is = more_written old.replies plan.lost wrote t.down (r.ran.reply ∷ []) t.lost_is t.next_is t.wrote_is;
       printed_is = added_text printed_line [] t.log (log_line_of r.ran ∷ []) printed old.text (printed_line (log_line_of r.ran)) t.printed_is (sym (append-nil (printed_line (log_line_of r.ran))));
     })
 
@@ -138,16 +143,28 @@ run_keeps first old new (Ok false) before r = let Kept : SimData → Type 0 = λ
 run_keeps first old new (Err error) before r = tt
 
 -- a simulator of these parts
-abbrev pub sim_of : PrinterData → ℕ → LinesData → List ℕ → List ℕ → SimData
+abbrev pub sim_of : PrinterData → ℕ → LinesData → RepliesData → List ℕ → SimData
 sim_of printer below lines replies text = record { printer = printer; below = below; lines = lines; replies = replies; text = text }
 
 -- the parts of an arrival
-pub arrived_of : (p q : PrinterData) (b b' : ℕ) (l l' : LinesData) (replies replies' text line : List ℕ) (taken : Taken) → l.waiting ≡ line ∷ drop 1 l.waiting → taken ≡ (take_line p (given b line)).0 → q ≡ (take_line p (given b line)).1 → (taken ≡ Full → ⊥) → b' ≡ below_after b line taken → l' ≡ record l { waiting = drop 1 l.waiting } → replies' ≡ replies ++ flat_map with_line_feed (signed_replies b taken) → Arrived (sim_of p b l replies text) (sim_of q b' l' replies' text)
+pub arrived_of : (p q : PrinterData) (b b' : ℕ) (l l' : LinesData) (replies replies' : RepliesData) (text line : List ℕ) (taken : Taken) → l.waiting ≡ line ∷ drop 1 l.waiting → taken ≡ (take_line p (given b line)).0 → q ≡ (take_line p (given b line)).1 → (taken ≡ Full → ⊥) → b' ≡ below_after b line taken → l' ≡ record l { waiting = drop 1 l.waiting } → replies' ≡ with_replies replies (signed_replies b taken) → Arrived (sim_of p b l replies text) (sim_of q b' l' replies' text)
 arrived_of p q b b' l l' replies replies' text line taken first is after other below dropped wrote =
     let t = (take_line p (given b line)).0 in
-    let same : sim_of q b' l' replies' text ≡ sim_of (take_line p (given b line)).1 (below_after b line t) (record l { waiting = drop 1 l.waiting }) (replies ++ flat_map with_line_feed (signed_replies b t)) text =
+    let same : sim_of q b' l' replies' text ≡ sim_of (take_line p (given b line)).1 (below_after b line t) (record l { waiting = drop 1 l.waiting }) (with_replies replies (signed_replies b t)) text =
     ap (λ (x : PrinterData). sim_of x b' l' replies' text) after
     ∙ ap (λ (x : ℕ). sim_of (take_line p (given b line)).1 x l' replies' text) (below ∙ ap (below_after b line) is)
     ∙ ap (λ (x : LinesData). sim_of (take_line p (given b line)).1 (below_after b line t) x replies' text) dropped
-    ∙ ap (λ (x : List ℕ). sim_of (take_line p (given b line)).1 (below_after b line t) (record l { waiting = drop 1 l.waiting }) x text) (wrote ∙ ap (λ (x : Taken). replies ++ flat_map with_line_feed (signed_replies b x)) is) in
+    ∙ ap (λ (x : RepliesData). sim_of (take_line p (given b line)).1 (below_after b line t) (record l { waiting = drop 1 l.waiting }) x text) (wrote ∙ ap (λ (x : Taken). with_replies replies (signed_replies b x)) is) in
     record { line = line; first = first; room = room_else p (given b line) (λ full. other (is ∙ full)); is = same }
+
+-- the parts of a run whose reply or line found no memory
+pub ran_only : (p q : PrinterData) (b : ℕ) (l : LinesData) (replies replies' : RepliesData) (text text' : List ℕ) (ran : RanLine) → Some ran ≡ (run_front p).0 → q ≡ (run_front p).1 → text' ≡ text → HasRunOnly (sim_of p b l replies text) (sim_of q b l replies' text')
+ran_only p q b l replies replies' text text' ran front after same =
+    let all : RepliesData = with_replies replies (ran.reply ∷ []) in
+    let printed : List ℕ = text ++ printed_line (log_line_of ran) in
+    record {
+      replies = all;
+      text = printed;
+      ran = record { ran = ran; front = sym front; is = ap (λ (x : PrinterData). sim_of x b l all printed) after };
+      unprinted = same;
+    }

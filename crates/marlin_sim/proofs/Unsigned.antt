@@ -10,8 +10,9 @@ use Rattle.marlin_frame.specs.Frame.{begins_with_n, fails}
 use Rattle.printer_model.specs.Printer.{PrinterData, Entry, Logged, is_full, take_line}
 use Rattle.printer_model.specs.Replies.{taken_replies}
 use Rattle.printer_model.specs.World.{WorldData, apply, world_from}
+use Rattle.printer_model.specs.declared.oks.Oks.{Oks}
 use Rattle.printer_model.specs.declared.event.WorldEvent.{WorldEvent}
-use Rattle.printer_model.specs.declared.event.WorldEvent.TheVariants.{Opened, Send, Arrive, Lose, Garble, Run, Restart, Chatter, Recv, Closed}
+use Rattle.printer_model.specs.declared.event.WorldEvent.TheVariants.{Opened, Send, Arrive, Lose, LoseReply, Garble, Run, Restart, Chatter, Recv, Closed}
 use Rattle.printer_model.specs.declared.printer.Taken.{Taken}
 use Rattle.printer_model.specs.declared.printer.Taken.TheVariants.{Accepted, Full, Refused}
 use Rattle.marlin_sim.specs.Run.{SimWorld, is_step, world_at, after_taking, sim_apply, sim_from, model_world}
@@ -90,11 +91,11 @@ arrive_same p log (line ∷ rest) down unsigned =
     ⊎_elim (full_same p log line rest down unsigned) (room_same p log line rest down unsigned) (cases_Bool (is_full p))
 
 -- both run the same line
-run_same : (last slots : ℕ) (numbered : Bool) (queue : List Entry) (log : List Logged) (up down : List (List ℕ)) → are_unsigned up ≡ true → IsSame (world_at (record { last = last; slots = slots; numbered = numbered; queue = queue }) 0 log up down) Run
-run_same last slots numbered [] log up down unsigned = record { is = refl; below = refl; unsigned = unsigned }
-run_same last slots numbered (entry ∷ queue) log up down unsigned =
+run_same : (last slots : ℕ) (oks : Oks) (queue : List Entry) (log : List Logged) (up down : List (List ℕ)) → are_unsigned up ≡ true → IsSame (world_at (record { last = last; slots = slots; oks = oks; queue = queue }) 0 log up down) Run
+run_same last slots oks [] log up down unsigned = record { is = refl; below = refl; unsigned = unsigned }
+run_same last slots oks (entry ∷ queue) log up down unsigned =
     record {
-      is = happens (model_world (world_at (record { last = last; slots = slots; numbered = numbered; queue = entry ∷ queue }) 0 log up down)) Run refl;
+      is = happens (model_world (world_at (record { last = last; slots = slots; oks = oks; queue = entry ∷ queue }) 0 log up down)) Run refl;
       below = refl;
       unsigned = unsigned;
     }
@@ -106,10 +107,11 @@ step_same w Arrive step none unsigned =
 step_same w Run step none unsigned =
     let P : ℕ → Type 0 = λ b. IsSame (world_at w.printer b w.log w.up w.down) Run in
     let p = w.printer in
-    subst P (sym none) (run_same p.last p.slots p.numbered p.queue w.log w.up w.down unsigned)
+    subst P (sym none) (run_same p.last p.slots p.oks p.queue w.log w.up w.down unsigned)
 step_same w (Opened last) step none unsigned = absurd (cc)
 step_same w (Send line) step none unsigned = absurd (cc)
 step_same w (Lose at) step none unsigned = absurd (cc)
+step_same w (LoseReply at) step none unsigned = absurd (cc)
 step_same w (Garble at line) step none unsigned = absurd (cc)
 step_same w Restart step none unsigned = absurd (cc)
 step_same w (Chatter reply) step none unsigned = absurd (cc)

@@ -1,5 +1,5 @@
 -- The lines that reach the printer, by the bytes that were received.
-use Rattle.std.specs.Prelude.{ℕ, suc, ◌-◌, Bool, ◌==◌, if◌then◌else◌, List, [], ◌∷◌, ◌++◌, length, take, slice_index}
+use Rattle.std.specs.Prelude.{◌≡◌, ℕ, suc, ◌-◌, Bool, ◌==◌, if◌then◌else◌, List, [], ◌∷◌, ◌++◌, length, take, slice_index}
 use Rattle.std.specs.Char.{is_ascii_digit}
 use Rattle.std.specs.List.{slice_split}
 use Rattle.octo_outside.specs.Memory.{is_listed}
@@ -56,3 +56,10 @@ pub record LinesData : Type 0 where
 -- all that is to arrive, if these bytes are still to be received
 abbrev pub to_come : SimPlan → LinesData → List ℕ → List (List ℕ)
 to_come plan l bytes = l.waiting ++ planned plan (suc l.received) (with_begun l.begun (whole_lines bytes))
+
+-- the first of these bytes were received; what is to arrive is the same if the others are still to be received
+pub record IsReceivedInPart (plan : SimPlan) (bytes : List ℕ) (old new : LinesData) : Type 0 where
+  pub front : List ℕ
+  pub rest : List ℕ
+  pub whole : bytes ≡ front ++ rest
+  pub comes : (more : List ℕ) → to_come plan new (rest ++ more) ≡ to_come plan old (bytes ++ more)

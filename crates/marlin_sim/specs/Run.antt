@@ -10,6 +10,7 @@ use Rattle.marlin_sim.specs.Lines.{whole_lines, planned}
 use Rattle.marlin_sim.specs.Signed.{given, below_after, signed_replies}
 use Rattle.marlin_sim.specs.declared.plan.SimPlan.{SimPlan}
 use Rattle.octo_outside.specs.Lists.{with_line_feed}
+use Rattle.octo_outside.specs.Memory.{one_more, is_listed}
 
 -- whether an event is a step of the printer: it takes the next line, or runs the front of its queue
 abbrev pub is_step : WorldEvent → Bool
@@ -32,7 +33,7 @@ world_at printer below log up down = record { printer = printer; below = below; 
 -- a new printer, with all lines of the input that are to arrive still before it
 abbrev pub first_world : SimPlan → List ℕ → SimWorld
 first_world plan input =
-    world_at (record { last = plan.last; slots = plan.slots; numbered = false; queue = [] }) 0 [] (planned plan 1 (whole_lines input)) []
+    world_at (record { last = plan.last; slots = plan.slots; oks = record { numbered = plan.numbered; lost = false }; queue = [] }) 0 [] (planned plan 1 (whole_lines input)) []
 
 -- the printer took the next line
 abbrev pub after_taking : SimWorld → List ℕ → List (List ℕ) → Taken × PrinterData → SimWorld
@@ -87,9 +88,19 @@ printed_line line = number_text line.number ++ with_line_feed line.text
 abbrev pub start_text : List ℕ
 start_text = codes "start\n"
 
--- what is written in a run: `start`, and then the replies
-abbrev pub written_text : SimWorld → List ℕ
-written_text w = start_text ++ flat_map with_line_feed w.down
+-- what isn't lost of replies, the first of which has this number
+abbrev pub unlost : List ℕ → ℕ → List (List ℕ) → List (List ℕ)
+unlost lost n [] = []
+unlost lost n (reply ∷ replies) = if is_listed lost n then unlost lost (one_more n) replies else reply ∷ unlost lost (one_more n) replies
+
+-- the number after those of replies, the first of which has this number
+abbrev pub number_after : ℕ → List (List ℕ) → ℕ
+number_after n [] = n
+number_after n (reply ∷ replies) = number_after (one_more n) replies
+
+-- what is written in a run: `start`, and then the replies that aren't lost, counted from 1
+abbrev pub written_text : SimPlan → SimWorld → List ℕ
+written_text plan w = start_text ++ flat_map with_line_feed (unlost plan.lost 1 w.down)
 
 -- what is printed of it: the executed lines
 abbrev pub printed_text : SimWorld → List ℕ

@@ -23,7 +23,7 @@ outside left wrote printed = record { left = left; wrote = wrote; printed = prin
 pub record IsServed (plan : SimPlan) (input : List ℕ) (first now : Outside) : Type 0 where
   pub w : SimWorld
   pub run : IsRunOf plan input w
-  pub wrote : Adds first.wrote now.wrote (written_text w)
+  pub wrote : Adds first.wrote now.wrote (written_text plan w)
   pub printed : Adds first.printed now.printed (printed_text w)
 
 -- a run over the whole input, to its end
@@ -31,21 +31,21 @@ pub record IsDone (plan : SimPlan) (input : List ℕ) (first now : Outside) : Ty
   pub w : SimWorld
   pub run : IsRunOf plan input w
   pub over : IsOver w
-  pub wrote : Adds first.wrote now.wrote (written_text w)
+  pub wrote : Adds first.wrote now.wrote (written_text plan w)
   pub printed : Adds first.printed now.printed (printed_text w)
 
 -- a run over the input, of which the first bytes were written and all was printed
 pub record IsCutOff (plan : SimPlan) (input : List ℕ) (first now : Outside) : Type 0 where
   pub w : SimWorld
   pub run : IsRunOf plan input w
-  pub wrote : AddsPrefix first.wrote now.wrote (written_text w)
+  pub wrote : AddsPrefix first.wrote now.wrote (written_text plan w)
   pub printed : Adds first.printed now.printed (printed_text w)
 
 -- a run over the input, of which the first bytes were written and printed
 pub record IsLost (plan : SimPlan) (input : List ℕ) (first now : Outside) : Type 0 where
   pub w : SimWorld
   pub run : IsRunOf plan input w
-  pub wrote : AddsPrefix first.wrote now.wrote (written_text w)
+  pub wrote : AddsPrefix first.wrote now.wrote (written_text plan w)
   pub printed : AddsPrefix first.printed now.printed (printed_text w)
 
 -- what an end says of the input that the connection recorded
@@ -55,7 +55,7 @@ Outcome end.BadPlan plan input first now = now ≡ first
 Outcome end.ConnFailed plan input first now = IsCutOff plan input first now
 Outcome end.SinkFailed plan input first now = IsLost plan input first now
 Outcome (end.TurnsUsed turns) plan input first now = IsServed plan input first now
-Outcome end.NoMemory plan input first now = Unit {0}
+Outcome end.NoMemory plan input first now = IsCutOff plan input first now
 
 -- a simulator on its way through the input
 pub record Serves (plan : SimPlan) (input : List ℕ) (first now : Outside) (s : SimData) : Type 0 where
@@ -70,13 +70,13 @@ pub record Serves (plan : SimPlan) (input : List ℕ) (first now : Outside) (s :
 -- and all replies are written
 pub record Going (plan : SimPlan) (input : List ℕ) (first now : Outside) (s : SimData) : Type 0 where
   pub serves : Serves plan input first now s
-  pub clean : s.replies ≡ []
+  pub clean : s.replies.text ≡ []
 
--- the connection failed; the text is still to be printed
+-- the connection failed, or memory ran out; the text is still to be printed
 pub record Breaks (plan : SimPlan) (input : List ℕ) (first now : Outside) (s : SimData) : Type 0 where
   pub w : SimWorld
   pub run : IsRunOf plan input w
-  pub wrote : AddsPrefix first.wrote now.wrote (written_text w)
+  pub wrote : AddsPrefix first.wrote now.wrote (written_text plan w)
   pub printed : List ℕ
   pub printed_is : Adds first.printed now.printed printed
   pub text : printed_text w ≡ printed ++ s.text
@@ -87,7 +87,7 @@ After next.On plan input first now s = Going plan input first now s
 After next.Over plan input first now s = Going plan input first now s
 After next.ConnFailed plan input first now s = Breaks plan input first now s
 After next.SinkFailed plan input first now s = IsLost plan input first now
-After next.NoMemory plan input first now s = Unit {0}
+After next.NoMemory plan input first now s = Breaks plan input first now s
 
 -- all was read and done; the text is still to be printed
 pub record Finishes (plan : SimPlan) (input : List ℕ) (first now : Outside) (s : SimData) : Type 0 where
@@ -102,7 +102,7 @@ Ending end.BadPlan plan input first now s = ⊥
 Ending end.ConnFailed plan input first now s = Breaks plan input first now s
 Ending end.SinkFailed plan input first now s = IsLost plan input first now
 Ending (end.TurnsUsed turns) plan input first now s = Going plan input first now s
-Ending end.NoMemory plan input first now s = Unit {0}
+Ending end.NoMemory plan input first now s = Breaks plan input first now s
 
 -- the bytes that were read and the reads that found nothing yet are together at least this number, unless the count of these is at its last value
 pub record IsUsed (turns : ℕ) (before : List ℕ) (left : Option (List ℕ)) (quiets quiets' : ℕ) : Type 0 where

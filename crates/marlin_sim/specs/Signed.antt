@@ -61,13 +61,9 @@ below_after below line Accepted = if begins_with_n line then minus_of line else 
 below_after below line Full = below
 below_after below line (Refused reason last) = below
 
--- how the first line of a refusal begins
-unfoldable pub error_start : Reason → List ℕ
-error_start reason = codes "Error:" ++ reason_text reason
-
 -- the first line of a refusal at a last number that is this far below 0
 unfoldable pub error_below : Reason → ℕ → List ℕ
-error_below reason below = error_start reason ++ codes ", Last Line: -" ++ decimal below
+error_below reason below = codes "Error:" ++ reason_text reason ++ codes ", Last Line: -" ++ decimal below
 
 -- the number one above that one
 unfoldable pub number_above : ℕ → List ℕ

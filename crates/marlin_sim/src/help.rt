@@ -5,18 +5,19 @@ use octo_outside::WordList;
 use std::alloc::Global;
 
 // What the program's arguments are.
-pub(crate) const USAGE: &str = "usage: marlin_sim ADDRESS LAST SLOTS DROP GARBLE";
+pub(crate) const USAGE: &str = "usage: marlin_sim ADDRESS LAST SLOTS DROP GARBLE [LOST]";
 
 const HELP: &str = "\
 A modelled Marlin printer: serves one connection, and prints what it executed.
 
-usage: marlin_sim ADDRESS LAST SLOTS DROP GARBLE
+usage: marlin_sim ADDRESS LAST SLOTS DROP GARBLE [LOST]
 
 ADDRESS  where it listens: HOST:PORT or unix:PATH; or pty:LINK:BOOT, a board at a pseudo-terminal
 LAST     its last line number at the beginning
 SLOTS    how many lines it keeps waiting, 1 to 16
 DROP     the received lines that it loses, as 2,5, counted from 1; - for none
 GARBLE   those that it receives with another last digit; - for none
+LOST     the replies that are lost, counted from 1 after start; - for none. With it each ok but that to M105 names its line
 ";
 
 const VERSION: &str = "marlin_sim 1\n";
@@ -40,8 +41,8 @@ fn wrong_places(alloc: Global, word: &str) -> bool {
 
 // What is wrong with arguments that are no plan.
 pub(crate) fn wrong_argument(alloc: Global, words: &WordList) -> &'static str {
-    if words.count() != 5 {
-        return "it takes five arguments";
+    if words.count() != 5 && words.count() != 6 {
+        return "it takes five or six arguments";
     }
     if !is_address(words.get(0)) {
         return "ADDRESS has to be a text of 1 to 100 bytes";
@@ -55,5 +56,8 @@ pub(crate) fn wrong_argument(alloc: Global, words: &WordList) -> &'static str {
     if wrong_places(alloc, words.get(3)) {
         return "DROP has to be - or rising numbers from 1 with commas between";
     }
-    "GARBLE has to be - or rising numbers from 1 with commas between"
+    if words.count() == 5 || wrong_places(alloc, words.get(4)) {
+        return "GARBLE has to be - or rising numbers from 1 with commas between";
+    }
+    "LOST has to be - or rising numbers from 1 with commas between"
 }

@@ -92,10 +92,10 @@ impl Model for Lines {
 }
 
 impl Lines {
-    ghost use Rattle.std.specs.Prelude.{◌≡◌, ◌≤◌, ◌∷◌, ◌++◌, ℕ, List, [], length, take, drop, MatchOption, OnOk};
+    ghost use Rattle.std.specs.Prelude.{◌≡◌, ◌≤◌, ◌∷◌, ◌++◌, ℕ, List, [], length, take, drop, MatchOption, OnOk, OnErr};
     ghost use Rattle.octo_outside.specs.Memory.{one_more};
     ghost use Rattle.marlin_sim.specs.Plan.{IsPlan};
-    ghost use Rattle.marlin_sim.specs.Lines.{LinesData, cut, arriving, to_come};
+    ghost use Rattle.marlin_sim.specs.Lines.{LinesData, cut, arriving, to_come, IsReceivedInPart};
 
     /// Nothing was received yet; takes no memory.
     pub fn new(alloc: Global) -> Self
@@ -134,27 +134,44 @@ impl Lines {
         put_cut(&mut self.begun, bytes);
     }
 
-    // The line that was begun is whole.
-    fn finish(&mut self) -> CutLine
-        ensures line { result.items ≡ self.old.begun }
-        ensures after { self.new
-            ≡ record self.old { begun = []; received = one_more self.old.received } }
+    // The line that was begun, with these bytes.
+    fn begun_line(&self, bytes: &[u8]) -> CutLine
+        ensures { result.items ≡ cut (self.now.begun ++ bytes.now) }
     {
-        self.received = self.received.saturating_add(1);
-        self.begun.take()
+        let mut line = bounded_text(self.begun.as_slice());
+        put_cut(&mut line, bytes);
+        line
     }
 
+    // Without memory all is as before.
     fn push(&mut self, line: CutLine) -> Result<(), AllocError>
-        ensures { OnOk result
+        ensures ok { OnOk result
             (self.new ≡ record self.old { waiting = self.old.waiting ++ line.items ∷ [] }) }
+        ensures err { OnErr result (self.new ≡ self.old) }
     {
         self.waiting.push_back(line)?;
         Ok(())
     }
 
-    // Receives the end of a line; what is to arrive of it waits.
+    // The number of the line that was begun.
+    fn number(&self) -> u64
+        ensures { result ≡ one_more self.now.received }
+    {
+        self.received.saturating_add(1)
+    }
+
+    // The line that was begun is whole, and counts.
+    fn count_line(&mut self)
+        ensures { self.new
+            ≡ record self.old { begun = []; received = one_more self.old.received } }
+    {
+        self.begun.clear();
+        self.received = self.number();
+    }
+
+    // Receives the end of a line; what is to arrive of it waits. Without memory all is as before.
     fn end_line(&mut self, plan: &SimPlan, bytes: &[u8]) -> Result<(), AllocError>
-        ensures { OnOk result
+        ensures ok { OnOk result
             (self.new ≡ record {
               waiting = self.old.waiting
                   ++ arriving plan.now (one_more self.old.received)
@@ -162,21 +179,24 @@ impl Lines {
               begun = [];
               received = one_more self.old.received;
             }) }
+        ensures err { OnErr result (self.new ≡ self.old) }
     {
-        self.begin(bytes);
-        let line = self.finish();
-        match arriving(plan, self.received, line) {
-            Some(line) => self.push(line),
-            None => Ok(()),
+        if let Some(line) = arriving(plan, self.number(), self.begun_line(bytes)) {
+            self.push(line)?;
+            self.count_line();
+            return Ok(());
         }
+        self.count_line();
+        Ok(())
     }
 
-    /// Receives bytes. Fails if out of memory.
+    /// Receives bytes. Fails if out of memory; then the first lines of them were received.
     pub fn receive(&mut self, plan: &SimPlan, bytes: &[u8]) -> Result<(), AllocError>
         requires { IsPlan plan.now }
-        ensures { OnOk result
+        ensures ok { OnOk result
             ((more : List ℕ)
             → to_come plan.now self.new more ≡ to_come plan.now self.old (bytes.now ++ more)) }
+        ensures err { OnErr result (IsReceivedInPart plan.now bytes.now self.old self.new) }
     {
         let mut rest = bytes;
         while let Some((piece, after)) = split_at_first(rest, b'\n') {

@@ -8,6 +8,7 @@ mod end;
 mod help;
 mod lines;
 mod plan;
+mod replies;
 mod serve;
 mod signed;
 mod sim;

@@ -1,7 +1,7 @@
 //! The plan of a simulation, as the arguments name it.
-ghost use Rattle.std.specs.Prelude.{◌≡◌, Some, map, IfOk, IfSome};
+ghost use Rattle.std.specs.Prelude.{◌≡◌, ◌≤◌, Some, length, map, IfOk, IfSome};
 ghost use Rattle.std.specs.List.{slice_split};
-ghost use Rattle.marlin_sim.specs.Plan.{place_in, count_in, is_comma, places_above, places_in, is_address, plan_with, plan_of, IsPlan};
+ghost use Rattle.marlin_sim.specs.Plan.{place_in, count_in, is_comma, places_above, places_in, is_address, plan_with, plan_by, plan_of, IsPlan};
 
 use byte_text::number_in;
 use octo_outside::{CallList, WordList};
@@ -18,6 +18,10 @@ pub struct SimPlan {
     pub drop: CallList,
     /// The received lines that arrive with another last digit.
     pub corrupt: CallList,
+    /// Whether an acknowledgement names its line, as with `ADVANCED_OK`.
+    pub numbered: bool,
+    /// The replies, counted from 1 after `start`, that aren't written.
+    pub lost: CallList,
     /// For how many reads the connection is served.
     pub turns: u64,
 }
@@ -80,16 +84,19 @@ pub(crate) fn read_count(word: &str) -> Option<u8>
     }
 }
 
-// The plan of its numbers and of two arguments that list lines: those to drop and those to corrupt.
+// The plan of its numbers, of two arguments that list lines, those to drop and those to corrupt, and of its acknowledgements.
 fn plan_with(
     alloc: Global,
     last: u32,
     slots: u8,
     drop: &str,
     corrupt: &str,
+    numbered: bool,
+    lost: CallList,
 ) -> Result<Option<SimPlan>, AllocError>
     ensures { IfOk result (λ plan. plan
-        ≡ plan_with (Some last) (Some slots) (places_in drop.now) (places_in corrupt.now)) }
+        ≡ plan_with (Some last) (Some slots) (places_in drop.now) (places_in corrupt.now)
+        numbered (Some lost)) }
 {
     let Some(drop) = read_places(alloc, drop)? else {
         return Ok(None);
@@ -102,15 +109,23 @@ fn plan_with(
         slots,
         drop,
         corrupt,
+        numbered,
+        lost,
         turns: TURNS,
     }))
 }
 
-// The plan that the arguments are.
-fn plan_in(alloc: Global, words: &WordList) -> Result<Option<SimPlan>, AllocError>
-    ensures { IfOk result (λ plan. plan ≡ plan_of words.now) }
+// The plan of the first five arguments, with such acknowledgements.
+fn plan_by(
+    alloc: Global,
+    words: &WordList,
+    numbered: bool,
+    lost: CallList,
+) -> Result<Option<SimPlan>, AllocError>
+    requires { 5 ≤ length words.now }
+    ensures { IfOk result (λ plan. plan ≡ plan_by numbered (Some lost) words.now) }
 {
-    if words.count() != 5 || !is_address(words.get(0)) {
+    if !is_address(words.get(0)) {
         return Ok(None);
     }
     let Some(last) = number_in(words.get(1)) else {
@@ -119,7 +134,32 @@ fn plan_in(alloc: Global, words: &WordList) -> Result<Option<SimPlan>, AllocErro
     let Some(slots) = read_count(words.get(2)) else {
         return Ok(None);
     };
-    plan_with(alloc, last, slots, words.get(3), words.get(4))
+    plan_with(
+        alloc,
+        last,
+        slots,
+        words.get(3),
+        words.get(4),
+        numbered,
+        lost,
+    )
+}
+
+// The plan that the arguments are.
+#[tactic(auto, using(crate::proofs::Places::of_five, crate::proofs::Places::of_six, crate::proofs::Places::of_six_none, crate::proofs::Places::of_others))]
+fn plan_in(alloc: Global, words: &WordList) -> Result<Option<SimPlan>, AllocError>
+    ensures { IfOk result (λ plan. plan ≡ plan_of words.now) }
+{
+    if words.count() == 5 {
+        return plan_by(alloc, words, false, CallList::new(alloc));
+    }
+    if words.count() != 6 {
+        return Ok(None);
+    }
+    let Some(lost) = read_places(alloc, words.get(5))? else {
+        return Ok(None);
+    };
+    plan_by(alloc, words, true, lost)
 }
 
 // Whether an argument may be an address: 1 to 100 bytes.
@@ -129,7 +169,7 @@ pub(crate) fn is_address(word: &str) -> bool
     word.len() >= 1 && word.len() <= 100
 }
 
-/// The plan that the arguments are, `ADDRESS LAST SLOTS DROP GARBLE`; `None` if they are no plan. Fails if out of memory.
+/// The plan that the arguments are, `ADDRESS LAST SLOTS DROP GARBLE [LOST]`; `None` if they are no plan. Fails if out of memory.
 pub fn read_plan(alloc: Global, words: &WordList) -> Result<Option<SimPlan>, AllocError>
     ensures value { IfOk result (λ plan. plan ≡ plan_of words.now) }
     ensures plan { IfOk result (λ plan. IfSome plan IsPlan) }

@@ -36,10 +36,11 @@ const TEXT: usize = 16384;
 
 /// Writes the replies. Fails if the connection does; then the replies stay.
 pub fn send_replies<C: Conn>(conn: &mut C, sim: &mut Sim) -> Result<(), Failed>
-    ensures ok { OnOk result (Adds (C.written conn.old) (C.written conn.new) sim.old.replies) }
-    ensures after { OnOk result (sim.new ≡ record sim.old { replies = [] }) }
+    ensures ok { OnOk result (Adds (C.written conn.old) (C.written conn.new) sim.old.replies.text) }
+    ensures after { OnOk result
+        (sim.new ≡ record sim.old { replies = record sim.old.replies { text = [] } }) }
     ensures err { OnErr result
-        (AddsPrefix (C.written conn.old) (C.written conn.new) sim.old.replies) }
+        (AddsPrefix (C.written conn.old) (C.written conn.new) sim.old.replies.text) }
     ensures same { OnErr result (sim.new ≡ sim.old) }
     ensures left { C.left conn.new ≡ C.left conn.old }
     ensures quiets { C.quiets conn.new ≡ C.quiets conn.old }
@@ -82,7 +83,7 @@ fn deliver<C: Conn, O: Sink>(conn: &mut C, out: &mut O, sim: &mut Sim, ran: bool
     ensures printer { sim.new.printer ≡ sim.old.printer }
     ensures below { sim.new.below ≡ sim.old.below }
     ensures lines { sim.new.lines ≡ sim.old.lines }
-    ensures written { (result ≡ next.On) ⊎ (result ≡ next.Over) → sim.new.replies ≡ [] }
+    ensures written { (result ≡ next.On) ⊎ (result ≡ next.Over) → sim.new.replies.text ≡ [] }
     ensures left { C.left conn.new ≡ C.left conn.old }
     ensures quiets { C.quiets conn.new ≡ C.quiets conn.old }
     ensures conn { Counts (result ≡ next.ConnFailed) (C.faults conn.old) (C.faults conn.new) }

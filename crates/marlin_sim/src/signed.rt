@@ -2,22 +2,22 @@
 //!
 //! Source: Marlin's queue.cpp, which reads a line number with its sign (`strtol`). Printrun's printcore begins a print with
 //! `N-1 M110*15`, and numbers its first command 0.
-ghost use Rattle.std.specs.Prelude.{◌≡◌, ◌≢◌, ◌≤◌, ◌++◌, ℕ, List, true, length, OnOk};
-ghost use Rattle.std.specs.List.{list_all, flat_map};
+ghost use Rattle.std.specs.Prelude.{◌≡◌, ◌≢◌, ◌≤◌, ◌+◌, ◌∷◌, [], ◌++◌, ℕ, List, true, length, OnOk, OnErr};
+ghost use Rattle.std.specs.List.{list_all};
+ghost use Rattle.arrayvec.specs.ArrayVec.{array_vec_len};
 ghost use Rattle.byte_text.specs.declared.texts.TheConstants.{MOST_LINE_BYTES};
-ghost use Rattle.octo_outside.specs.Lists.{with_line_feed};
 ghost use Rattle.printer_model.specs.World.{world_from};
-ghost use Rattle.printer_model.specs.Replies.{reason_text, taken_replies};
+ghost use Rattle.printer_model.specs.Replies.{reason_text, ok_line, taken_replies};
+ghost use Rattle.marlin_sim.specs.Sim.{with_replies, AddsSome};
 ghost use Rattle.printer_model.specs.declared.event.WorldEvent.{WorldEvent};
 ghost use Rattle.marlin_sim.specs.declared.plan.SimPlan.{SimPlan};
 ghost use Rattle.marlin_sim.specs.Lines.{whole_lines, planned};
 ghost use Rattle.marlin_sim.specs.Run.{is_step, first_world, sim_from, model_world};
-ghost use Rattle.marlin_sim.specs.Signed.{begins_with_minus, minus_of, follows_below, command_of, line_refused_for, given_below, given_setting, given, below_after, error_start, error_below, number_above, resend_below, replies_below, signed_replies, are_unsigned};
+ghost use Rattle.marlin_sim.specs.Signed.{begins_with_minus, minus_of, follows_below, command_of, line_refused_for, given_below, given_setting, given, below_after, error_below, number_above, resend_below, replies_below, signed_replies, are_unsigned};
 
-use byte_text::{after, has_m110, number};
-use itoa::Buffer;
+use crate::replies::Replies;
+use byte_text::{ReplyLine, after, append, append_number, has_m110, number};
 use marlin_frame::{begins_with_n, fails, has_checksum, has_second_n, line_number, text};
-use octo_outside::{Blob, append_line};
 use printer_model::{Reason, Taken, error_line, ok_line, resend_line};
 use std::alloc::AllocError;
 
@@ -142,7 +142,8 @@ pub fn below_after(below: u32, line: &[u8], taken: &Taken) -> u32
 // Why a line was refused, as the printer says it.
 #[tactic(auto, unfolding(printer_model::specs::Replies::reason_text))]
 fn reason_bytes(reason: Reason) -> &'static [u8]
-    ensures { result.now ≡ reason_text reason }
+    ensures text { result.now ≡ reason_text reason }
+    ensures short { length result.now ≤ 37 }
 {
     match reason {
         Reason::WrongNumber => b"Line Number is not Last Line Number+1",
@@ -151,77 +152,102 @@ fn reason_bytes(reason: Reason) -> &'static [u8]
     }
 }
 
-// Adds how the first line of a refusal begins.
-#[tactic(auto, unfolding(crate::specs::Signed::error_start))]
-fn put_error_start(replies: &mut Blob, reason: Reason) -> Result<(), AllocError>
-    ensures { OnOk result (replies.new ≡ replies.old ++ error_start reason) }
-{
-    replies.append(b"Error:")?;
-    replies.append(reason_bytes(reason))
-}
-
-// Adds the first line of a refusal at a last number that is this far below 0.
+// The first line of a refusal at a last number that is this far below 0.
 #[tactic(auto, unfolding(crate::specs::Signed::error_below))]
-fn put_error_below(replies: &mut Blob, reason: Reason, below: u32) -> Result<(), AllocError>
-    ensures { OnOk result
-        (replies.new ≡ replies.old ++ with_line_feed (error_below reason below)) }
+fn error_line_below(reason: Reason, below: u32) -> ReplyLine
+    ensures { result.items ≡ error_below reason below }
 {
-    let mut buffer = Buffer::new();
-    put_error_start(replies, reason)?;
-    replies.append(b", Last Line: -")?;
-    append_line(replies, buffer.format(below).as_bytes())
+    let mut line = ReplyLine::new();
+    append(&mut line, b"Error:");
+    append(&mut line, reason_bytes(reason));
+    append(&mut line, b", Last Line: -");
+    append_number(&mut line, below);
+    line
 }
 
-// Adds the second line of such a refusal, which asks for the number one above that one.
-#[tactic(auto, unfolding(crate::specs::Signed::resend_below, crate::specs::Signed::number_above))]
-fn put_resend_below(replies: &mut Blob, below: u32) -> Result<(), AllocError>
-    requires { 1 ≤ below }
-    ensures { OnOk result (replies.new ≡ replies.old ++ with_line_feed (resend_below below)) }
+// Adds the number one above a last number that is this far below 0.
+#[tactic(auto, unfolding(crate::specs::Signed::number_above))]
+fn append_number_above(line: &mut ReplyLine, below: u32)
+    requires some { 1 ≤ below }
+    requires room { array_vec_len line.old + 11 ≤ 256 }
+    ensures { line.new.items ≡ line.old.items ++ number_above below }
 {
     if below == 1 {
-        return append_line(replies, b"Resend: 0");
+        append(line, b"0");
+        return;
     }
-    let mut buffer = Buffer::new();
-    replies.append(b"Resend: -")?;
-    append_line(replies, buffer.format(below - 1).as_bytes())
+    append(line, b"-");
+    append_number(line, below - 1);
+}
+
+// The second line of such a refusal, which asks for the number one above that one.
+#[tactic(auto, unfolding(crate::specs::Signed::resend_below))]
+fn resend_line_below(below: u32) -> ReplyLine
+    requires { 1 ≤ below }
+    ensures { result.items ≡ resend_below below }
+{
+    let mut line = ReplyLine::new();
+    append(&mut line, b"Resend: ");
+    append_number_above(&mut line, below);
+    line
+}
+
+// Adds the three lines of a refusal, or the first of them.
+#[tactic(auto, using(crate::proofs::Lost::three_more))]
+fn put_refusal(replies: &mut Replies, error: &[u8], resend: &[u8]) -> Result<(), AllocError>
+    ensures ok { OnOk result (replies.new
+        ≡ with_replies replies.old (error.now ∷ resend.now ∷ ok_line ∷ [])) }
+    ensures err { OnErr result
+        (AddsSome replies.old (error.now ∷ resend.now ∷ ok_line ∷ []) replies.new) }
+{
+    replies.put(error)?;
+    replies.put(resend)?;
+    replies.put(ok_line().as_slice())
 }
 
 // Adds the replies to a line that was taken at a last number that isn't below 0.
-fn put_taken(replies: &mut Blob, taken: &Taken) -> Result<(), AllocError>
-    ensures { OnOk result
-        (replies.new ≡ replies.old ++ flat_map with_line_feed (taken_replies taken.now)) }
+#[tactic(auto, using(crate::proofs::Lost::none_more))]
+fn put_taken(replies: &mut Replies, taken: &Taken) -> Result<(), AllocError>
+    ensures ok { OnOk result (replies.new ≡ with_replies replies.old (taken_replies taken.now)) }
+    ensures err { OnErr result (AddsSome replies.old (taken_replies taken.now) replies.new) }
 {
     match taken {
         Taken::Accepted | Taken::Full => Ok(()),
-        Taken::Refused { reason, last } => {
-            append_line(replies, error_line(*reason, *last).as_slice())?;
-            append_line(replies, resend_line(*last).as_slice())?;
-            append_line(replies, ok_line().as_slice())
-        }
+        Taken::Refused { reason, last } => put_refusal(
+            replies,
+            error_line(*reason, *last).as_slice(),
+            resend_line(*last).as_slice(),
+        ),
     }
 }
 
 // Adds the replies to a line that was taken at a last number that is this far below 0.
-fn put_taken_below(replies: &mut Blob, below: u32, taken: &Taken) -> Result<(), AllocError>
+#[tactic(auto, using(crate::proofs::Lost::none_more))]
+fn put_taken_below(replies: &mut Replies, below: u32, taken: &Taken) -> Result<(), AllocError>
     requires { 1 ≤ below }
-    ensures { OnOk result
-        (replies.new ≡ replies.old ++ flat_map with_line_feed (replies_below below taken.now)) }
+    ensures ok { OnOk result
+        (replies.new ≡ with_replies replies.old (replies_below below taken.now)) }
+    ensures err { OnErr result
+        (AddsSome replies.old (replies_below below taken.now) replies.new) }
 {
     match taken {
         Taken::Accepted | Taken::Full => Ok(()),
-        Taken::Refused { reason, .. } => {
-            put_error_below(replies, *reason, below)?;
-            put_resend_below(replies, below)?;
-            append_line(replies, ok_line().as_slice())
-        }
+        Taken::Refused { reason, .. } => put_refusal(
+            replies,
+            error_line_below(*reason, below).as_slice(),
+            resend_line_below(below).as_slice(),
+        ),
     }
 }
 
-/// Adds the replies to a line that was taken, if the last number is `below` below 0. Fails if out of memory.
+/// Adds the replies to a line that was taken, if the last number is `below` below 0. Fails if out of memory; then the
+/// first of them were added.
 #[tactic(auto, unfolding(crate::specs::Signed::signed_replies))]
-pub fn put_replies(replies: &mut Blob, below: u32, taken: &Taken) -> Result<(), AllocError>
-    ensures { OnOk result
-        (replies.new ≡ replies.old ++ flat_map with_line_feed (signed_replies below taken.now)) }
+pub fn put_replies(replies: &mut Replies, below: u32, taken: &Taken) -> Result<(), AllocError>
+    ensures ok { OnOk result
+        (replies.new ≡ with_replies replies.old (signed_replies below taken.now)) }
+    ensures err { OnErr result
+        (AddsSome replies.old (signed_replies below taken.now) replies.new) }
 {
     if below == 0 {
         put_taken(replies, taken)

@@ -48,10 +48,6 @@ fn finish<O: Sink>(out: &mut O, sim: &mut Sim, ending: SimEnd) -> SimEnd
 {
     match ending {
         SimEnd::SinkFailed => SimEnd::SinkFailed,
-        SimEnd::NoMemory => {
-            let _ = print_text(out, sim);
-            SimEnd::NoMemory
-        }
         _ => match print_text(out, sim) {
             Ok(()) => ending,
             Err(_) => SimEnd::SinkFailed,
@@ -63,8 +59,8 @@ fn finish<O: Sink>(out: &mut O, sim: &mut Sim, ending: SimEnd) -> SimEnd
 ///
 /// If the connection records its input: with `Done` the printer has taken the lines of the input that the plan lets
 /// arrive, in order, and run them all; `start` and its replies were written, and what it ran was printed. With each other
-/// end but out of memory what it did is the beginning of such a run; what was written of it is cut where the connection
-/// failed, and what was printed if the sink failed.
+/// end what it did is the beginning of such a run; what was written of it is cut if the connection failed or memory ran
+/// out, and what was printed if the sink failed.
 pub fn simulate<C: Conn, O: Sink>(
     alloc: Global,
     conn: &mut C,

@@ -129,6 +129,25 @@ fn planned_lines(rt: HostRuntime) -> Result<(), Fail> {
     assert_rows(&rt, &rows)
 }
 
+// With a list of lost replies, acknowledgements name their line, and those that are listed aren't written. Both commands wait when
+// the first one is run, so two buffer slots are free then, and three at the second.
+#[test]
+fn lost_replies(rt: HostRuntime) -> Result<(), Fail> {
+    let rows = [
+        Row {
+            words: &["p", "4", "4", "-", "2", "-"],
+            written: b"start\nError:checksum mismatch, Last Line: 1\nResend: 2\nok\nok N0 P15 B2\nok N2 P15 B3\n",
+            ..CORRUPTED
+        },
+        Row {
+            words: &["p", "4", "4", "-", "2", "2,4"],
+            written: b"start\nError:checksum mismatch, Last Line: 1\nok\nok N2 P15 B3\n",
+            ..CORRUPTED
+        },
+    ];
+    assert_rows(&rt, &rows)
+}
+
 #[test]
 fn short_inputs(rt: HostRuntime) -> Result<(), Fail> {
     let rows = [
@@ -259,6 +278,8 @@ fn turns_of(alloc: Global, conn: &mut MemoryConn, out: &mut MemorySink, turns: u
         slots: 4,
         drop: CallList::new(alloc),
         corrupt: CallList::new(alloc),
+        numbered: false,
+        lost: CallList::new(alloc),
         turns,
     };
     simulate(alloc, conn, out, &plan)
@@ -283,10 +304,11 @@ fn turns_used(rt: HostRuntime) -> Result<(), Fail> {
 
 #[test]
 fn bad_plans(rt: HostRuntime) -> Result<(), Fail> {
-    let rows: [&[&str]; 16] = [
+    let rows: [&[&str]; 17] = [
         &[],
         &["p", "4", "4", "-"],
-        &["p", "4", "4", "-", "-", "-"],
+        &["p", "4", "4", "-", "-", "-", "-"],
+        &["p", "4", "4", "-", "-", "2,1"],
         &["", "4", "4", "-", "-"],
         &["p", "", "4", "-", "-"],
         &["p", "4294967296", "4", "-", "-"],

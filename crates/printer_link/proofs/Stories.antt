@@ -1,5 +1,5 @@
 -- A recorded history that grows event by event, and the world with it.
-use Rattle.std.proofs.Common.{◌≡◌, ℕ, zero, suc, ◌+◌, ◌<◌, Bool, true, false, List, [], ◌∷◌, ◌++◌, length, replicate, refl, sym, ◌∙◌, ap, append_assoc, append-nil, arith}
+use Rattle.std.proofs.Common.{◌≡◌, ℕ, zero, suc, ◌+◌, ◌<◌, ◌≤◌, subst, Bool, true, false, List, [], ◌∷◌, ◌++◌, length, replicate, refl, sym, ◌∙◌, ap, append_assoc, append-nil, arith}
 use Rattle.std.specs.Prelude.{if◌then◌else◌, not, ◌&&◌, Result, Ok, Err, OnErr, OnOk}
 use Rattle.std.specs.List.{list_all, list_any}
 use Rattle.std.proofs.lemmas.List.{replicate_more}
@@ -8,9 +8,10 @@ use Rattle.std.proofs.lemmas.List.Folds.{list_all-append}
 use Rattle.printer_model.specs.Printer.{is_full}
 use Rattle.printer_model.specs.World.{is_opened, WorldData, arrive_front, world_from, apply, happen, can_happen, is_free, is_empty}
 use Rattle.printer_link.specs.Link.{arrivals, dial_events, printer_events}
-use Rattle.printer_link.specs.Memory.{StoryData, FreeOnly, before_reply, opening_last, queue_runs, restart_events, story_world, with_events}
+use Rattle.octo_outside.specs.Memory.{one_more, is_listed}
+use Rattle.printer_link.specs.Memory.{StoryData, FreeOnly, PassedReply, before_reply, lost_among, opening_last, queue_runs, restart_events, story_world, with_events}
 use Rattle.printer_model.specs.declared.event.WorldEvent.{WorldEvent}
-use Rattle.printer_model.specs.declared.event.WorldEvent.TheVariants.{Arrive, Opened}
+use Rattle.printer_model.specs.declared.event.WorldEvent.TheVariants.{Arrive, LoseReply, Opened}
 use Rattle.printer_model.proofs.Laws.{world_of-push, world_of-append, happens}
 
 -- a story with another recorded history
@@ -97,10 +98,10 @@ arrived_more w n all joined lines room =
 
 -- the world of a story with one more event
 pub story_push : (s : StoryData) (event : WorldEvent) → story_world (with_events s (event ∷ [])) ≡ apply (story_world s) event
-story_push s event = world_of-push s.slots s.numbered s.past event
+story_push s event = world_of-push s.slots s.oks s.past event
 
 pub story_append : (s : StoryData) (added : List WorldEvent) → story_world (with_events s added) ≡ world_from (story_world s) added
-story_append s added = world_of-append s.slots s.numbered s.past added
+story_append s added = world_of-append s.slots s.oks s.past added
 
 -- a fact of every failure
 pub on_err : {T E P : Type 0} (r : Result T E) → P → OnErr r P
@@ -153,3 +154,65 @@ restarted_free s mid now restarts mid_is later =
           ∙ ap (λ (b : Bool). b && list_all is_free later.added) (restart_free restarts)
           ∙ later.free;
     }
+
+-- Of the replies from a place on, the first ones were lost by their numbers, and `left` are still to be looked at: the next one has this
+-- number and this place.
+pub record LosesOn (s now : StoryData) (lost : List ℕ) (first from count number at left : ℕ) : Type 0 where
+  pub front : List WorldEvent
+  pub is : now ≡ with_events s front
+  pub rest : front ++ lost_among lost number at left ≡ lost_among lost first from count
+  pub free : list_all is_free front ≡ true
+
+-- one more was looked at
+lose_next : (b : Bool) (s now next : StoryData) (lost : List ℕ) (first from count number at place left : ℕ) → is_listed lost number ≡ b →
+    LosesOn s now lost first from count number at (suc left) → PassedReply b at place now next → LosesOn s next lost first from count (one_more number) place left
+lose_next true s now next lost first from count number at place left listed h passed =
+    let At : ℕ → Type 0 = λ a. LosesOn s next lost first from count (one_more number) a left in
+    let rest : lost_among lost number at (suc left) ≡ LoseReply at ∷ lost_among lost (one_more number) at left =
+    ap (λ (b : Bool). if b then LoseReply at ∷ lost_among lost (one_more number) at left else lost_among lost (one_more number) (at + 1) left) listed in
+    subst At (sym passed.0)
+    (record {
+      front = h.front ++ LoseReply at ∷ [];
+      is = passed.1 ∙ ap (λ (m : StoryData). with_events m (LoseReply at ∷ [])) h.is ∙ with_then s h.front (LoseReply at ∷ []);
+      rest = append_assoc h.front (LoseReply at ∷ []) (lost_among lost (one_more number) at left)
+          ∙ ap (λ (es : List WorldEvent). h.front ++ es) (sym rest) ∙ h.rest;
+      free = list_all-append is_free h.front (LoseReply at ∷ []) ∙ ap (λ (b : Bool). b && true) h.free;
+    })
+lose_next false s now next lost first from count number at place left listed h passed =
+    let At : ℕ → Type 0 = λ a. LosesOn s next lost first from count (one_more number) a left in
+    let rest : lost_among lost number at (suc left) ≡ lost_among lost (one_more number) (at + 1) left =
+    ap (λ (b : Bool). if b then LoseReply at ∷ lost_among lost (one_more number) at left else lost_among lost (one_more number) (at + 1) left) listed in
+    subst At (sym passed.0)
+    (record {
+      front = h.front;
+      is = passed.1 ∙ h.is;
+      rest = ap (λ (es : List WorldEvent). h.front ++ es) (sym rest) ∙ h.rest;
+      free = h.free;
+    })
+
+pub loses_next : (s now next : StoryData) (lost : List ℕ) (first from count number at place all left : ℕ) → all ≡ suc left →
+    LosesOn s now lost first from count number at all → PassedReply (is_listed lost number) at place now next →
+    LosesOn s next lost first from count (one_more number) place left
+loses_next s now next lost first from count number at place all left all_is h passed =
+    let At : ℕ → Type 0 = λ n. LosesOn s now lost first from count number at n in
+    lose_next (is_listed lost number) s now next lost first from count number at place left refl (subst At all_is h) passed
+
+-- the place of the next one moves by one at most
+pub next_place : (b : Bool) (s now : StoryData) (at place : ℕ) → PassedReply b at place s now → place ≤ at + 1
+next_place true s now at place passed = omega (arith, passed.0)
+next_place false s now at place passed = omega (arith, passed.0)
+
+-- of a part of them only free events were added
+pub lost_part : (s now new : StoryData) (lost : List ℕ) (first from count number at left : ℕ) → LosesOn s now lost first from count number at left → new ≡ now →
+    FreeOnly s new
+lost_part s now new lost first from count number at left h same = record { added = h.front; is = same ∙ h.is; free = h.free }
+
+-- all were looked at
+pub lost_all : (s now : StoryData) (lost : List ℕ) (first from count number at : ℕ) → LosesOn s now lost first from count number at 0 →
+    now ≡ with_events s (lost_among lost first from count)
+lost_all s now lost first from count number at h =
+    h.is ∙ ap (with_events s) (sym (append-nil h.front) ∙ h.rest)
+
+-- none was
+pub loses_none : (s : StoryData) (lost : List ℕ) (first from count : ℕ) → LosesOn s s lost first from count first from count
+loses_none s lost first from count = record { front = []; is = with_none s; rest = refl; free = refl }

@@ -5,14 +5,15 @@ use Rattle.octo_outside.specs.Recorded.{Became, last_count}
 use Rattle.marlin_frame.specs.Frame.{fails}
 use Rattle.printer_model.specs.Printer.{is_full}
 use Rattle.printer_model.specs.World.{WorldData, is_empty, is_free, is_run, can_happen, happen, world_from, world_of}
+use Rattle.printer_model.specs.declared.oks.Oks.{Oks}
 use Rattle.printer_model.specs.declared.event.WorldEvent.{WorldEvent}
 use Rattle.printer_model.specs.declared.event.WorldEvent.TheVariants.{Opened, Send, Arrive, Run, Recv, Closed}
 
--- what no call of a link changes: how many lines the printer's queue holds, whether its acknowledgements are numbered,
--- whether each line arrives whole and is answered at once, and which names are listed
+-- what no call of a link changes: how many lines the printer's queue holds, its acknowledgements, whether each line arrives
+-- whole and is answered at once, and which names are listed
 pub record LinkKind : Type 0 where
   pub slots : ℕ
-  pub numbered : Bool
+  pub oks : Oks
   pub prompt : Bool
   pub listed : List ℕ → Bool
 
@@ -23,7 +24,7 @@ pub record HasSlots (kind : LinkKind) : Type 0 where
 
 -- the world that a history leads to
 abbrev pub world_in : LinkKind → List WorldEvent → WorldData
-world_in kind past = world_of kind.slots kind.numbered past
+world_in kind past = world_of kind.slots kind.oks past
 
 -- a recorded history stays recorded and grew by such an addition; one that isn't recorded stays so
 pub record Recorded (old new : Option (List WorldEvent)) (Addition : List WorldEvent → List WorldEvent → Type 0) : Type 0 where

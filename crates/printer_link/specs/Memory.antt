@@ -1,14 +1,16 @@
 -- A link in memory: its schedule, its recorded history, and the events that each call adds.
-use Rattle.std.specs.Prelude.{◌≡◌, ◌≤◌, ℕ, ◌+◌, ◌%◌, Bool, true, false, ◌==◌, ◌&&◌, if◌then◌else◌, List, [], ◌∷◌, ◌++◌, length, replicate, min, count_by, slice_index_or}
+use Rattle.std.specs.Prelude.{◌≡◌, ◌≤◌, ℕ, zero, suc, ◌+◌, ◌-◌, not, ◌%◌, Bool, true, false, ◌==◌, ◌&&◌, if◌then◌else◌, List, [], ◌∷◌, ◌++◌, length, replicate, min, count_by, slice_index_or}
 use Rattle.std.specs.List.{list_all, list_any}
 use Rattle.std.specs.Str.{bytes_eq}
 use Rattle.arrayvec.specs.ArrayVec.{ArrayVec}
-use Rattle.octo_outside.specs.Memory.{one_more}
+use Rattle.octo_outside.specs.Memory.{one_more, is_listed}
+use Rattle.octo_outside.specs.Recorded.{last_count}
 use Rattle.printer_model.specs.Corrupt.{corrupted}
 use Rattle.printer_model.specs.World.{WorldData, world_from, world_of, is_empty, is_free, IsFrontReply, is_send, is_opened}
 use Rattle.printer_link.specs.Link.{LinkKind, printer_events}
+use Rattle.printer_model.specs.declared.oks.Oks.{Oks}
 use Rattle.printer_model.specs.declared.event.WorldEvent.{WorldEvent}
-use Rattle.printer_model.specs.declared.event.WorldEvent.TheVariants.{Send, Lose, Garble, Run, Restart, Recv, Closed}
+use Rattle.printer_model.specs.declared.event.WorldEvent.TheVariants.{Send, Lose, LoseReply, Garble, Run, Restart, Recv, Closed}
 use Rattle.printer_link.specs.declared.link.Heard.{Heard}
 use Rattle.printer_link.specs.declared.link.Heard.TheVariants.{Line, Nothing}
 use Rattle.printer_link.specs.declared.schedule.Schedule.{Schedule}
@@ -18,7 +20,7 @@ use Rattle.printer_link.specs.declared.schedule.Fate.TheVariants.{Whole, Lost, G
 -- a recorded history over a printer, with the fates of the lines that are sent in it
 pub record StoryData : Type 0 where
   pub slots : ℕ
-  pub numbered : Bool
+  pub oks : Oks
   pub fates : List Fate
   pub past : List WorldEvent
 
@@ -30,13 +32,17 @@ pub record MemoryLinkData : Type 0 where
   pub slow : ℕ
   pub fail_at : List ℕ
   pub restart_at : List ℕ
+  -- the replies that are lost, by their numbers
+  pub lost : List ℕ
   pub calls : ℕ
   pub recvs : ℕ
+  -- how many replies joined the wire from the printer
+  pub replies : ℕ
   pub faults : ℕ
 
 -- the world at the end of a recorded history
 abbrev pub story_world : StoryData → WorldData
-story_world s = world_of s.slots s.numbered s.past
+story_world s = world_of s.slots s.oks s.past
 
 -- a recorded history with more events
 abbrev pub with_events : StoryData → List WorldEvent → StoryData
@@ -68,6 +74,17 @@ restart_events restarts = if restarts then Restart ∷ [] else []
 abbrev pub before_reply : Bool → Bool → WorldData → List WorldEvent
 before_reply restarts due w = restart_events restarts ++ printer_events due (world_from w (restart_events restarts))
 
+-- of this number of replies on the wire, the first of which has this number and this place, the listed ones are lost
+abbrev pub lost_among : List ℕ → ℕ → ℕ → ℕ → List WorldEvent
+lost_among lost number at zero = []
+lost_among lost number at (suc count) =
+    if is_listed lost number then LoseReply at ∷ lost_among lost (one_more number) at count
+    else lost_among lost (one_more number) (at + 1) count
+
+-- how many replies join the wire by events, none of which takes one off
+abbrev pub joined : WorldData → List WorldEvent → ℕ
+joined w events = length (world_from w events).down - length w.down
+
 -- all that waits is run
 abbrev pub queue_runs : WorldData → List WorldEvent
 queue_runs w = replicate (length w.printer.queue) Run
@@ -92,11 +109,16 @@ pub record FreeOnly (old new : StoryData) : Type 0 where
   pub is : new ≡ with_events old added
   pub free : list_all is_free added ≡ true
 
+-- a reply was passed over, and lost if it is listed; `next` is the place of the next one
+abbrev pub PassedReply : Bool → ℕ → ℕ → StoryData → StoryData → Type 0
+PassedReply true at next old new = (next ≡ at) × (new ≡ with_events old (LoseReply at ∷ []))
+PassedReply false at next old new = (next ≡ at + 1) × (new ≡ old)
+
 -- what is kept beside a recorded history: its world, and the place of the next fate
-pub record IsKept (slots : ℕ) (numbered : Bool) (fates : List Fate) (past : List WorldEvent) (world : WorldData) (next : ℕ) : Type 0 where
+pub record IsKept (slots : ℕ) (oks : Oks) (fates : List Fate) (past : List WorldEvent) (world : WorldData) (next : ℕ) : Type 0 where
   pub some : 1 ≤ slots
   pub few : slots ≤ 16
-  pub world_is : world ≡ world_of slots numbered past
+  pub world_is : world ≡ world_of slots oks past
   pub next_is : next ≡ min (sends past) (length fates)
 
 -- the world of a link
@@ -111,18 +133,24 @@ lists_name names name = list_any (λ listed. bytes_eq listed name) names
 abbrev pub is_due : ℕ → ℕ → Bool
 is_due slow recvs = recvs % (slow + 1) == 0
 
+-- the acknowledgements of a schedule's printer; replies may be lost if some are listed
+abbrev pub oks_of : Schedule → Oks
+oks_of schedule = record { numbered = schedule.numbered; lost = not (is_empty schedule.lost) }
+
 -- a link that nothing was asked of
 abbrev pub new_link : Schedule → MemoryLinkData
 new_link schedule =
     record {
-      story = record { slots = schedule.slots; numbered = schedule.numbered; fates = schedule.fates; past = [] };
+      story = record { slots = schedule.slots; oks = oks_of schedule; fates = schedule.fates; past = [] };
       names = schedule.names;
       last = schedule.last;
       slow = schedule.slow;
       fail_at = schedule.fail_at;
       restart_at = schedule.restart_at;
+      lost = schedule.lost;
       calls = 0;
       recvs = 0;
+      replies = 0;
       faults = 0;
     }
 
@@ -148,13 +176,13 @@ is_whole Whole = true
 is_whole Lost = false
 is_whole Garbled = false
 
--- whether each line arrives whole, is run at the next `recv`, no call fails, and the printer doesn't restart
+-- whether each line arrives whole and is run at the next `recv`, no call fails, the printer doesn't restart, and no reply is lost
 abbrev pub is_prompt : MemoryLinkData → Bool
-is_prompt l = list_all is_whole l.story.fates && (l.slow == 0 && (is_empty l.fail_at && is_empty l.restart_at))
+is_prompt l = list_all is_whole l.story.fates && (l.slow == 0 && (is_empty l.fail_at && (is_empty l.restart_at && is_empty l.lost)))
 
 -- what no call of a link in memory changes
 abbrev pub link_kind : MemoryLinkData → LinkKind
-link_kind l = record { slots = l.story.slots; numbered = l.story.numbered; prompt = is_prompt l; listed = lists_name l.names }
+link_kind l = record { slots = l.story.slots; oks = l.story.oks; prompt = is_prompt l; listed = lists_name l.names }
 
 -- a link that only let the printer run
 pub record LinkRan (old new : MemoryLinkData) : Type 0 where
@@ -164,18 +192,39 @@ pub record LinkRan (old new : MemoryLinkData) : Type 0 where
 -- a link on which only the line and the printer did something
 pub record LinkMoved (old new : MemoryLinkData) : Type 0 where
   pub added : List WorldEvent
-  pub is : new ≡ with_added old added
+  -- how many replies joined the wire so far
+  pub replies : ℕ
+  pub is : new ≡ record (with_added old added) { replies = replies }
   pub free : list_all is_free added ≡ true
+
+-- what happens at a `recv` before a reply is received: what the printer does, and then which of its replies are lost
+abbrev pub recv_losses : Bool → Bool → MemoryLinkData → List WorldEvent
+recv_losses restarts due l =
+    lost_among l.lost (one_more l.replies) (length (link_world l).down) (joined (link_world l) (before_reply restarts due (link_world l)))
+
+-- both, in order
+abbrev pub before_recv : Bool → Bool → MemoryLinkData → List WorldEvent
+before_recv restarts due l = before_reply restarts due (link_world l) ++ recv_losses restarts due l
+
+-- the count of replies after more of them, at most its type's last value
+abbrev pub with_replies : ℕ → MemoryLinkData → MemoryLinkData
+with_replies count l = record l { replies = min (l.replies + count) last_count }
+
+-- a link after that
+abbrev pub after_printer : Bool → Bool → MemoryLinkData → MemoryLinkData
+after_printer restarts due l =
+    with_replies (joined (link_world l) (before_reply restarts due (link_world l)))
+    (with_added l (before_recv restarts due l))
 
 -- a line was received after what the printer did
 pub record LinkHeard (restarts due : Bool) (into : List ℕ) (old new : MemoryLinkData) : Type 0 where
-  pub is : new ≡ with_added old (before_reply restarts due (link_world old) ++ Recv ∷ [])
-  pub front : IsFrontReply into (world_from (link_world old) (before_reply restarts due (link_world old))).down
+  pub is : new ≡ with_added (after_printer restarts due old) (Recv ∷ [])
+  pub front : IsFrontReply into (link_world (after_printer restarts due old)).down
 
 -- nothing came after what the printer did
 pub record LinkQuiet (restarts due : Bool) (old new : MemoryLinkData) : Type 0 where
-  pub is : new ≡ with_added old (before_reply restarts due (link_world old))
-  pub empty : (world_from (link_world old) (before_reply restarts due (link_world old))).down ≡ []
+  pub is : new ≡ after_printer restarts due old
+  pub empty : (link_world (after_printer restarts due old)).down ≡ []
 
 -- a `recv` that didn't fail
 abbrev pub LinkReceived : Bool → Bool → List ℕ → Heard → MemoryLinkData → MemoryLinkData → Type 0

@@ -39,8 +39,8 @@ pub trait Link {
     /// The events of its history, if recorded.
     ghost past: { Self → Option (List WorldEvent) };
 
-    /// What no call changes: the printer's buffer slots, whether its acknowledgements are numbered, whether the link is
-    /// prompt, and which names are listed.
+    /// What no call changes: the printer's buffer slots and acknowledgements, whether replies may be lost, whether the
+    /// link is prompt, and which names are listed.
     ghost kind: { Self → LinkKind };
 
     /// The number of calls of `dial`, `send` and `recv`, if recorded.

@@ -1,4 +1,4 @@
-//! A link to the printer in memory, which loses and corrupts lines and fails by a schedule.
+//! A link to the printer in memory, which loses and corrupts lines, loses replies and fails by a schedule.
 ghost use Rattle.std.specs.Prelude.{◌≡◌, ◌≤◌, ◌∷◌, [], true, false, IfOk, OnOk, OnErr, IsErr, ◌↔◌, ℕ, IsErrOf, Err, Some, length, count_by};
 ghost use Rattle.byte_text.specs.declared.texts.TheConstants.{MOST_LINE_BYTES};
 ghost use Rattle.octo_outside.specs.Memory.{one_more, is_listed};
@@ -17,7 +17,7 @@ use crate::schedule::Schedule;
 use crate::story::Story;
 use byte_text::{Line, ReplyLine};
 use octo_outside::{CallList, Calls, NameList};
-use printer_model::Executed;
+use printer_model::{Executed, Oks};
 use std::alloc::{AllocError, Global};
 use std::marker::Model;
 
@@ -32,8 +32,11 @@ pub struct MemoryLink {
     last: u32,
     slow: u32,
     restart_at: CallList,
+    lost: CallList,
     calls: Calls,
     recvs: u64,
+    // How many replies joined the wire from the printer.
+    replies: u64,
 }
 
 impl Model for MemoryLink {
@@ -49,8 +52,10 @@ impl Model for MemoryLink {
       slow = l.slow;
       fail_at = l.calls.fail_at;
       restart_at = l.restart_at;
+      lost = l.lost;
       calls = l.calls.made;
       recvs = l.recvs;
+      replies = l.replies;
       faults = l.calls.faults;
     } };
 
@@ -73,16 +78,23 @@ impl MemoryLink {
             slow,
             fail_at,
             restart_at,
+            lost,
         } = schedule;
+        let oks = Oks {
+            numbered,
+            lost: !lost.as_slice().is_empty(),
+        };
         Ok(MemoryLink {
             alloc,
-            story: Story::new(alloc, slots, numbered, fates),
+            story: Story::new(alloc, slots, oks, fates),
             names,
             last,
             slow,
             restart_at,
+            lost,
             calls: Calls::new(fail_at),
             recvs: 0,
+            replies: 0,
         })
     }
 
@@ -91,6 +103,13 @@ impl MemoryLink {
         ensures { result ≡ (link_world self.now).linked }
     {
         self.story.world().is_linked()
+    }
+
+    /// The number that the printer has when the first link is made.
+    pub fn first_number(&self) -> u32
+        ensures { result ≡ self.now.last }
+    {
+        self.last
     }
 
     /// How many lines were sent.
@@ -117,13 +136,13 @@ impl MemoryLink {
 
     /// The lines that the printer ran in a session, without those of the hello's number; the first session is 1. Fails if out of memory.
     pub fn executed(&self, session: u32) -> Result<Executed, AllocError>
-        ensures { IfOk result (λ e. e ≡ executed self.now.story.slots self.now.story.numbered
+        ensures { IfOk result (λ e. e ≡ executed self.now.story.slots self.now.story.oks
             self.now.story.past session) }
     {
         Executed::of_session(
             self.alloc,
             self.story.slots(),
-            self.story.numbered(),
+            self.story.oks(),
             self.story.past(),
             session,
         )

@@ -24,7 +24,7 @@ pub struct Schedule {
     pub last: u32,
     /// How many lines the printer keeps waiting, 1 to 16.
     pub slots: u8,
-    /// Whether the printer's replies name the line.
+    /// Whether the printer's acknowledgements are numbered.
     pub numbered: bool,
     /// The fate of each line that is sent; later ones arrive whole.
     pub fates: FateList,
@@ -34,4 +34,6 @@ pub struct Schedule {
     pub fail_at: CallList,
     /// The calls of `recv` at which the printer restarts first, counted from 1.
     pub restart_at: CallList,
+    /// The replies that are lost, counted from 1 as they join the wire from the printer.
+    pub lost: CallList,
 }

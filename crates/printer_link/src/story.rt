@@ -1,9 +1,10 @@
 //! A world together with the events that led to it.
-ghost use Rattle.std.specs.Prelude.{◌≡◌, ◌<◌, ◌≤◌, ◌+◌, ◌%◌, ◌∷◌, ◌++◌, [], true, false, if◌then◌else◌, length, min, slice_index, slice_index_or, slice_set, vec_len, vec_capacity, OnOk, OnErr, IfOk};
+ghost use Rattle.std.specs.Prelude.{◌≡◌, ◌<◌, ◌≤◌, ◌+◌, ◌-◌, ◌^◌, ◌%◌, ◌∷◌, ◌++◌, [], true, false, if◌then◌else◌, length, min, slice_index, slice_index_or, slice_set, vec_len, vec_capacity, OnOk, OnErr, IfOk};
 ghost use Rattle.std.specs.List.{list_any};
+ghost use Rattle.octo_outside.specs.Memory.{is_listed};
 ghost use Rattle.printer_model.specs.World.{is_opened, is_send, apply, world_from, takes_memory, IsFrontReply};
 ghost use Rattle.printer_link.specs.Link.{arrivals, due_run, printer_events, dial_events};
-ghost use Rattle.printer_link.specs.Memory.{story_world, with_events, sends, next_fate, harm_events, send_events, restart_events, before_reply, opening_last, queue_runs, closing_events, RunsOnly, FreeOnly};
+ghost use Rattle.printer_link.specs.Memory.{story_world, with_events, sends, next_fate, harm_events, send_events, restart_events, before_reply, opening_last, queue_runs, closing_events, lost_among, RunsOnly, FreeOnly, PassedReply};
 ghost use Rattle.printer_model.specs.declared.event.WorldEvent.TheVariants as event;
 ghost use Rattle.printer_link.specs.declared.link.Heard.TheVariants as heard;
 ghost use Rattle.printer_link.specs.declared.schedule.Fate.TheVariants.{Whole};
@@ -11,7 +12,7 @@ ghost use Rattle.printer_link.specs.declared.schedule.Fate.TheVariants.{Whole};
 use crate::link::Heard;
 use crate::schedule::{Fate, FateList};
 use byte_text::{Line, ReplyLine, bounded_text};
-use printer_model::{World, WorldEvent, corrupted};
+use printer_model::{Oks, World, WorldEvent, corrupted};
 use std::alloc::{AllocError, Global};
 use std::marker::Model;
 
@@ -19,7 +20,7 @@ use std::marker::Model;
 #[derive(Drop)]
 pub(crate) struct Story {
     slots: u8,
-    numbered: bool,
+    oks: Oks,
     fates: FateList,
     past: Vec<WorldEvent>,
     world: World,
@@ -35,33 +36,33 @@ impl Model for Story {
 
     ghost view = { λ s. record {
       slots = s.slots;
-      numbered = s.numbered;
+      oks = s.oks;
       fates = s.fates;
       past = s.past.items;
     } };
 
-    ghost invariant = { λ s. IsKept s.slots s.numbered s.fates s.past.items s.world s.next
+    ghost invariant = { λ s. IsKept s.slots s.oks s.fates s.past.items s.world s.next
         × (s.world.linked ≡ true → vec_len s.past < vec_capacity s.past) };
 }
 
 impl Story {
     // A story with no event.
-    pub(crate) fn new(alloc: Global, slots: u8, numbered: bool, fates: FateList) -> Self
+    pub(crate) fn new(alloc: Global, slots: u8, oks: Oks, fates: FateList) -> Self
         requires some { 1 ≤ slots }
         requires few { slots ≤ 16 }
         ensures { result ≡ record {
           slots = slots;
-          numbered = numbered;
+          oks = oks;
           fates = fates;
           past = [];
         } }
     {
         Story {
             slots,
-            numbered,
+            oks,
             fates,
             past: Vec::new(alloc),
-            world: World::new(alloc, slots, numbered),
+            world: World::new(alloc, slots, oks),
             next: 0,
         }
     }
@@ -82,11 +83,11 @@ impl Story {
         self.slots
     }
 
-    // Whether the printer's replies name the line.
-    pub(crate) fn numbered(&self) -> bool
-        ensures { result ≡ self.now.numbered }
+    // The printer's acknowledgements.
+    pub(crate) fn oks(&self) -> Oks
+        ensures { result ≡ self.now.oks }
     {
-        self.numbered
+        self.oks
     }
 
     // The events so far.
@@ -197,6 +198,55 @@ impl Story {
     {
         self.restart_due(restarts)?;
         self.let_print(due)
+    }
+
+    // The listed ones of the replies from a place on are lost; the first of them has this number. Without memory a part of it.
+    pub(crate) fn lose_replies(
+        &mut self,
+        lost: &[u64],
+        first: u64,
+        from: usize,
+    ) -> Result<(), AllocError>
+        ensures ok { OnOk result (self.new
+            ≡ with_events self.old (lost_among lost.now first from
+            (length (story_world self.old).down - from))) }
+        ensures err { OnErr result (FreeOnly self.old self.new) }
+    {
+        let count = self.world().replies().saturating_sub(from);
+        let mut number = first;
+        let mut place = from;
+        for seen in 0..count {
+            place = self.pass_reply(lost, number, place)?;
+            number = number.saturating_add(1);
+        }
+        Ok(())
+    }
+
+    // The reply at a place of the wire is lost if its number is listed; the place of the next one.
+    fn pass_reply(&mut self, lost: &[u64], number: u64, at: usize) -> Result<usize, AllocError>
+        requires { at < 2 ^ 64 - 1 }
+        ensures ok { IfOk result (λ next.
+            PassedReply (is_listed lost.now number) at next self.old self.new) }
+        ensures err { OnErr result (self.new ≡ self.old) }
+    {
+        if lost.contains(&number) {
+            self.lose_reply(at)?;
+            Ok(at)
+        } else {
+            Ok(at + 1)
+        }
+    }
+
+    // The reply at a place of the wire is lost.
+    fn lose_reply(&mut self, at: usize) -> Result<(), AllocError>
+        ensures ok { OnOk result (self.new
+            ≡ with_events self.old (event.LoseReply at ∷ [])) }
+        ensures err { OnErr result (self.new ≡ self.old) }
+    {
+        let Ok(at) = u32::try_from(at) else {
+            return Err(AllocError);
+        };
+        self.add(WorldEvent::LoseReply { at })
     }
 
     // What arrives and what the printer runs at a call of `recv`; without memory a part of it.

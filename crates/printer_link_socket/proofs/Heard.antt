@@ -1,5 +1,5 @@
 -- What is heard if no reply line waited.
-use Rattle.std.proofs.Common.{◌≡◌, ℕ, zero, suc, true, false, List, [], ◌∷◌, ◌++◌, Option, Some, None, take, ap, refl, sym, ◌∙◌}
+use Rattle.std.proofs.Common.{◌≡◌, ℕ, true, false, List, [], ◌++◌, Option, Some, None, ap, sym, ◌∙◌}
 use Rattle.std.proofs.KnownBytes.{Consumes-nil}
 use Rattle.std.specs.Io.KnownBytes.{Keeps, Consumes}
 use Rattle.std.specs.List.{list_any, before_first, after_first}
@@ -19,13 +19,19 @@ keeps_consumes None b k = tt
 keeps_consumes (Some xs) None k = absurd k
 keeps_consumes (Some xs) (Some ys) k = sym k
 
+-- a read of no bytes took nothing
+pub consumes_keeps : (a b : Option (List ℕ)) → Consumes a b [] → Keeps a b
+consumes_keeps None b p = tt
+consumes_keeps (Some xs) None p = absurd p
+consumes_keeps (Some xs) (Some ys) p = sym p
+
 pub no_bytes_came : {S : Type 0} (remaining : S → Option (List ℕ)) (before after : S) → Keeps (remaining before) (remaining after) → Came remaining (Some before) (Some after) []
 no_bytes_came remaining before after k = keeps_consumes (remaining before) (remaining after) k
 
 -- the receiving wrote and read, and then a line ended
 pub heard_line : {S : Type 0} (contents remaining : S → Option (List ℕ)) (before between after : Option S) (unsent line : List ℕ) (old read new : LinesData)
     → Wrote contents before between unsent → Came remaining between after read.waiting
-    → read.begun ≡ cut (old.begun ++ old.waiting) → read.ended ≡ false
+    → read.begun ≡ cut (old.begun ++ old.waiting) → read.end ≡ None
     → list_any ends_line read.waiting ≡ true → line ≡ cut (read.begun ++ before_first ends_line read.waiting)
     → new ≡ record read { begun = []; waiting = after_first ends_line read.waiting }
     → HeardLater contents remaining before after unsent old Line line new
@@ -40,14 +46,14 @@ heard_line contents remaining before (Some s) after unsent line old read new w c
     is
         ∙ ap (λ l. cut (l ++ before_first ends_line read.waiting)) b
         ∙ take_once 256 (old.begun ++ old.waiting) (before_first ends_line read.waiting),
-    rest ∙ ap (λ e. record { begun = []; waiting = after_first ends_line read.waiting; ended = e }) going,
+    rest ∙ ap (λ e. record { begun = []; waiting = after_first ends_line read.waiting; end = e }) going,
   );
 }
 
 -- the receiving wrote and read, and no line has ended yet
 pub heard_nothing : {S : Type 0} (contents remaining : S → Option (List ℕ)) (before between after : Option S) (unsent line : List ℕ) (old read new : LinesData)
     → Wrote contents before between unsent → Came remaining between after read.waiting
-    → read.begun ≡ cut (old.begun ++ old.waiting) → read.ended ≡ false
+    → read.begun ≡ cut (old.begun ++ old.waiting) → read.end ≡ None
     → list_any ends_line read.waiting ≡ false → new ≡ record read { begun = cut (read.begun ++ read.waiting); waiting = [] }
     → HeardLater contents remaining before after unsent old Nothing line new
 heard_nothing contents remaining before None after unsent line old read new w c b going any is = absurd c
@@ -59,8 +65,8 @@ heard_nothing contents remaining before (Some s) after unsent line old read new 
   hears = (
     any,
     is
-        ∙ ap (λ e. record { begun = cut (read.begun ++ read.waiting); waiting = []; ended = e }) going
-        ∙ ap (λ l. record { begun = l; waiting = []; ended = false })
+        ∙ ap (λ e. record { begun = cut (read.begun ++ read.waiting); waiting = []; end = e }) going
+        ∙ ap (λ l. record { begun = l; waiting = []; end = None })
         (ap (λ l. cut (l ++ read.waiting)) b ∙ take_once 256 (old.begun ++ old.waiting) read.waiting),
   );
 }

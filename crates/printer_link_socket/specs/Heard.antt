@@ -19,10 +19,10 @@ abbrev pub Hears : (read came : List ℕ) → Heard → (line : List ℕ) → Li
 Hears read came Line line after =
     (list_any ends_line came ≡ true)
     × (line ≡ cut (read ++ before_first ends_line came))
-    × (after ≡ record { begun = []; waiting = after_first ends_line came; ended = false })
+    × (after ≡ record { begun = []; waiting = after_first ends_line came; end = None })
 Hears read came Nothing line after =
     (list_any ends_line came ≡ false)
-    × (after ≡ record { begun = cut (read ++ came); waiting = []; ended = false })
+    × (after ≡ record { begun = cut (read ++ came); waiting = []; end = None })
 
 -- a receiving that found no reply waiting: the stream wrote what was unsent, and then these bytes came from it
 pub record HeardLater {S : Type 0} (contents remaining : S → Option (List ℕ)) (before after : Option S) (unsent : List ℕ)

@@ -10,6 +10,15 @@ const SILENCE: u64 = 2_500;
 // For how many milliseconds more than its boot time a printer may go on speaking.
 const PATIENCE: u64 = 60_000;
 
+/// What a link waits for before it is used.
+#[derive(Clone, Copy)]
+pub(crate) enum Stage {
+    /// A peer may accept the connection yet. The printer may then take this number of milliseconds to start.
+    Connecting(u16),
+    /// The printer may be starting.
+    Booting(Boot),
+}
+
 /// A wait for a printer: since when, since when it is silent, and how long it may take to start, in milliseconds.
 #[derive(Clone, Copy)]
 pub(crate) struct Boot {

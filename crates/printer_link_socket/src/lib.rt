@@ -1,4 +1,4 @@
-//! A link to a printer over TCP, a Unix socket or a serial device, which does not record what happened.
+//! A link to a printer over the streams of ports, which does not record what happened.
 #![tactic(auto)]
 
 mod address;
@@ -7,13 +7,11 @@ mod dial;
 mod lines;
 mod link;
 mod poll;
-mod ports;
 mod stream_link;
-mod tty;
 mod unsent;
+mod waiting;
+mod watched;
 
 pub use address::{Device, device_of, names_address, names_device, names_port};
-pub use dial::Dial;
+pub use dial::{Dial, Opened};
 pub use link::PortLink;
-pub use ports::{PortStream, SystemPorts};
-pub use tty::{TtyFault, TtyStream};

@@ -1,13 +1,15 @@
 //! Reply lines out of a stream's bytes.
-ghost use Rattle.std.specs.Prelude.{◌≡◌, ◌++◌, ◌-◌, ◌<◌, ◌≤◌, ◌⊎◌, ◌↔◌, ℕ, List, [], true, false, length, take, drop, IfOk, OnOk, OnErr, IsTrue, MatchResult};
-ghost use Rattle.std.specs.IoError.{error_kind};
+ghost use Rattle.std.specs.Prelude.{◌≡◌, ◌++◌, ◌-◌, ◌<◌, ◌≤◌, ◌⊎◌, ◌↔◌, ℕ, List, [], None, true, false, length, take, drop, IfOk, IfSome, IsNone, OnOk, OnErr, IsTrue, MatchResult, ⊤};
+ghost use Rattle.std.specs.IoError.{error_kind, raw_os_error};
 ghost use Rattle.std.specs.Io.KnownBytes.{Consumes, Keeps};
 ghost use Rattle.std.specs.List.{list_any, position_or_len, before_first, after_first};
-ghost use Rattle.printer_link_socket.specs.Lines.{LinesData, cut, ends_line};
+ghost use Rattle.printer_link_cause.specs.Causes.{cause_of};
+ghost use Rattle.printer_link_socket.specs.Lines.{LinesData, cut, end_at, ends_line};
 ghost use Rattle.printer_link_socket.specs.declared.lines.TheConstants.{SIZE};
 
 use byte_text::{ReplyLine, append};
 use octo_outside_sockets::may_come_later;
+use printer_link_cause::{Cause, cause_of};
 use std::io::{ErrorKind, Read};
 use std::marker::Model;
 use std::{io, mem};
@@ -21,8 +23,8 @@ pub struct Lines {
     begun: ReplyLine,
     bytes: [u8; SIZE],
     start: usize,
-    end: usize,
-    ended: bool,
+    stop: usize,
+    end: Option<Cause>,
 }
 
 impl Model for Lines {
@@ -30,11 +32,11 @@ impl Model for Lines {
 
     ghost view = { λ l. record {
       begun = l.begun.items;
-      waiting = take (l.end - l.start) (drop l.start l.bytes);
-      ended = l.ended;
+      waiting = take (l.stop - l.start) (drop l.start l.bytes);
+      end = l.end;
     } };
 
-    ghost invariant = { λ l. (l.start ≤ l.end) × (l.end ≤ SIZE) };
+    ghost invariant = { λ l. (l.start ≤ l.stop) × (l.stop ≤ SIZE) };
 }
 
 // How many bytes are before the first line feed, or in all without one.
@@ -52,38 +54,46 @@ fn add_cut(line: &mut ReplyLine, bytes: &[u8])
     append(line, &bytes[..count]);
 }
 
-// Whether a reading found the end of a stream: the peer has closed, and no byte came, or the stream has failed.
-fn found_end(read: &io::Result<usize>) -> bool
-    ensures { MatchResult read.now
-        (λ n. IsTrue result ↔ (n ≡ 0))
-        (λ error. result ≡ false ↔ (error_kind error ≡ ErrorKind.WouldBlock)
+// By what a reading found the end of a stream, if it did: the peer has closed, and no byte came, or the stream has failed.
+fn end_of(read: &io::Result<usize>) -> Option<Cause>
+    ensures end { MatchResult read.now
+        (λ n. result ≡ end_at n)
+        (λ error. IsNone result ↔ (error_kind error ≡ ErrorKind.WouldBlock)
         ⊎ (error_kind error ≡ ErrorKind.TimedOut) ⊎ (error_kind error ≡ ErrorKind.Interrupted)) }
+    ensures cause { MatchResult read.now (λ _. ⊤)
+        (λ error. IfSome result (λ cause. cause ≡ cause_of (raw_os_error error))) }
 {
     match read {
-        Ok(n) => *n == 0,
-        Err(error) => !may_come_later(error),
+        Ok(0) => Some(Cause::Closed),
+        Ok(_) => None,
+        Err(error) => {
+            if may_come_later(error) {
+                return None;
+            }
+            Some(cause_of(error))
+        }
     }
 }
 
 impl Lines {
     /// Nothing has been read.
     pub fn new() -> Self
-        ensures { result ≡ record { begun = []; waiting = []; ended = false } }
+        ensures { result ≡ record { begun = []; waiting = []; end = None } }
     {
         Lines {
             begun: ReplyLine::new(),
             bytes: [0; SIZE],
             start: 0,
-            end: 0,
-            ended: false,
+            stop: 0,
+            end: None,
         }
     }
 
-    /// Whether the last reading found the end of the stream.
-    pub fn has_ended(&self) -> bool
-        ensures { result ≡ self.now.ended }
+    /// By what the last reading found the end of the stream, if it did.
+    pub fn end(&self) -> Option<Cause>
+        ensures { result ≡ self.now.end }
     {
-        self.ended
+        self.end
     }
 
     /// Whether bytes wait that were read and aren't looked through yet.
@@ -97,7 +107,7 @@ impl Lines {
     fn waiting(&self) -> &[u8]
         ensures { result.now ≡ self.now.waiting }
     {
-        &self.bytes[self.start..self.end]
+        &self.bytes[self.start..self.stop]
     }
 
     // Passes over n waiting bytes.
@@ -123,7 +133,7 @@ impl Lines {
     {
         self.begun = line;
         self.start = 0;
-        self.end = 0;
+        self.stop = 0;
     }
 
     /// Takes the next line without its line feed, cut to 256 bytes. Returns `false` if no line has ended yet.
@@ -162,18 +172,20 @@ impl Lines {
         ensures kept { OnErr result (Keeps (S.Read.remaining stream.old)
             (S.Read.remaining stream.new)) }
 
-        // The stream has ended if no byte came, or at an error other than these three.
-        ensures ended { MatchResult result
-            (λ n. IsTrue self.new.ended ↔ (n ≡ 0))
-            (λ error. self.new.ended ≡ false ↔ (error_kind error ≡ ErrorKind.WouldBlock)
+        // The stream has ended if no byte came, or by an error other than these three.
+        ensures end { MatchResult result
+            (λ n. self.new.end ≡ end_at n)
+            (λ error. IsNone self.new.end ↔ (error_kind error ≡ ErrorKind.WouldBlock)
             ⊎ (error_kind error ≡ ErrorKind.TimedOut)
             ⊎ (error_kind error ≡ ErrorKind.Interrupted)) }
+        ensures cause { MatchResult result (λ _. ⊤)
+            (λ error. IfSome self.new.end (λ cause. cause ≡ cause_of (raw_os_error error))) }
     {
         self.start = 0;
-        self.end = 0;
+        self.stop = 0;
         let read = stream.read(&mut self.bytes);
-        self.ended = found_end(&read);
-        self.end = read?;
-        Ok(self.end)
+        self.end = end_of(&read);
+        self.stop = read?;
+        Ok(self.stop)
     }
 }

@@ -1,29 +1,32 @@
 //! A link to a printer over a port.
-ghost use Rattle.std.specs.Prelude.{◌≡◌, ◌+◌, ◌≤◌, ◌↔◌, ◌⊎◌, ◌++◌, [], length, true, false, is_some, Some, None, Ok, IfSome, IfOk, OnOk, OnErr, IsErr, IsOk, IsErrOf, ⊤};
+ghost use Rattle.std.specs.Prelude.{◌≡◌, ◌+◌, ◌≤◌, ◌↔◌, ◌⊎◌, ◌||◌, ◌++◌, [], length, true, false, is_some, Some, None, Ok, IfSome, IfOk, OnOk, OnErr, IsErr, IsOk, IsErrOf, ⊤};
 ghost use Rattle.std.specs.List.{list_any, before_first, after_first};
+ghost use Rattle.octo_outside.specs.Memory.{one_more};
 ghost use Rattle.octo_outside.specs.Recorded.{Counts};
 ghost use Rattle.printer_link_socket.specs.Address.{names_port};
 ghost use Rattle.printer_link_socket.specs.Lines.{cut, ends_line};
 ghost use Rattle.printer_link_socket.specs.declared.unsent.TheConstants.{ROOM};
 ghost use Rattle.printer_link_socket.specs.Sent.{Joins, WroteFirst};
 ghost use Rattle.printer_link_socket.specs.Heard.{HeardLater};
-ghost use Rattle.printer_link_socket.specs.Waiting.{Starts, boot_of, no_lines, waits_for};
+ghost use Rattle.printer_link_socket.specs.Waiting.{Starts, is_connecting, no_lines, waits_for};
 ghost use Rattle.printer_link.specs.declared.link.Heard.TheVariants as heard;
 ghost use Rattle.printer_link.specs.declared.link.LinkFault.TheVariants as fault;
 
-use crate::address::{names_device, names_port};
-use crate::boot::Boot;
-use crate::dial::Dial;
-use crate::stream_link::{Skipped, StreamLink};
+use crate::address::names_port;
+use crate::boot::Stage;
+use crate::dial::{Dial, Opened};
+use crate::stream_link::StreamLink;
+use crate::waiting::{boot_of, stage_from};
 use byte_text::{Line, MOST_LINE_BYTES, ReplyLine};
 use octo_outside_bell::Ear;
 use printer_link::{Heard, Link, LinkFault};
-
-// How long a printer at a serial device may take to start by default, in milliseconds.
-const TTY_BOOT: u16 = 3_000;
+use printer_link_cause::Cause;
 
 /// A link to ports of these kinds: `HOST:PORT`, over TCP; `unix:PATH`, over a Unix socket; `tty:PATH:SPEED` and `tty:PATH`, over
 /// a serial device. It does not record its history.
+///
+/// A dial waits for the peer for a short time. If the peer may accept the connection yet, the calls of `recv` go on with it, and find
+/// nothing; what is sent waits. If it can't be made after all, such a call fails.
 ///
 /// A call of `recv` waits for some milliseconds, and a reply that comes in, or a ring of the bell, ends the wait at once. Lines that are
 /// sent are written when `recv` finds no reply that has been read, so that those of one turn go out together. It fails if that
@@ -37,33 +40,12 @@ const TTY_BOOT: u16 = 3_000;
 /// `recv` finds nothing and drops what comes, and what is sent waits. It fails if a printer speaks for a minute more than its boot time.
 #[derive(Drop)]
 pub struct PortLink<D: Dial + Drop> {
-    ports: D,
+    pub(crate) ports: D,
     boot_ms: Option<u16>,
-    line: StreamLink<D::Stream>,
-    boot: Option<Boot>,
+    pub(crate) line: StreamLink<D::Stream>,
+    pub(crate) boot: Option<Stage>,
     up: bool,
     faults: u64,
-}
-
-// How long a printer at that port may take to start, in milliseconds, if the settings say this.
-fn boot_of(boot_ms: Option<u16>, name: &str) -> u16
-    ensures { result ≡ boot_of boot_ms name.now }
-{
-    match boot_ms {
-        Some(boot_ms) => boot_ms,
-        None => { if names_device(name) { TTY_BOOT } else { 0 } }
-    }
-}
-
-// The wait for the printer at that port, if there is one, from this moment on.
-fn wait_from(now: u64, boot_ms: Option<u16>, name: &str) -> Option<Boot>
-    ensures { is_some result ≡ waits_for boot_ms name.now }
-{
-    let boot_ms = boot_of(boot_ms, name);
-    if names_device(name) || boot_ms != 0 {
-        return Some(Boot::new(now, boot_ms));
-    }
-    None
 }
 
 impl<D: Dial + Drop> PortLink<D> {
@@ -100,58 +82,34 @@ impl<D: Dial + Drop> PortLink<D> {
         self.up
     }
 
+    // Goes on with a stream of which nothing was read or written.
+    fn begin(&mut self, stream: D::Stream)
+        ensures unsent { self.new.line.unsent ≡ [] }
+        ensures lines { self.new.line.lines ≡ no_lines }
+        ensures boot { self.new.boot_ms ≡ self.old.boot_ms }
+        ensures faults { self.new.faults ≡ self.old.faults }
+    {
+        let reads_wait = self.ports.reads_wait(&stream);
+        self.line.begin(stream, reads_wait);
+    }
+
     // Closes the link and counts the failure.
     fn fail(&mut self) -> LinkFault
         ensures fault { result ≡ fault.Failed }
         ensures down { self.new.up ≡ false }
         ensures closed { self.new.line.stream ≡ None }
         ensures counts { Counts ⊤ self.old.faults self.new.faults }
+        ensures one_fault { self.new.faults ≡ one_more self.old.faults }
         ensures lines { self.new.line.lines ≡ self.old.line.lines }
         ensures ready { self.new.boot ≡ None }
         ensures boot { self.new.boot_ms ≡ self.old.boot_ms }
+        ensures cause { self.new.line.cause ≡ self.old.line.cause }
     {
         self.line.stream = None;
         self.boot = None;
         self.up = false;
         self.faults = self.faults.saturating_add(1);
         LinkFault::Failed
-    }
-
-    // Takes a step of the wait for the printer: drops a line that came, or reads more. `false` if the link failed.
-    fn wait(&mut self, boot: Boot) -> bool
-        requires { self.old.boot ≡ Some boot }
-        ensures over { result ≡ true → self.new.boot ≡ None
-            → Starts self.old.line.lines self.new.line.lines ⊎ (self.new.line.lines ≡ no_lines) }
-        ensures unsent { self.new.line.unsent ≡ self.old.line.unsent }
-        ensures up { self.new.up ≡ self.old.up }
-        ensures faults { self.new.faults ≡ self.old.faults }
-        ensures boot { self.new.boot_ms ≡ self.old.boot_ms }
-    {
-        let Some(skipped) = self.line.skip() else {
-            return false;
-        };
-        let now = self.ports.now();
-        match skipped {
-            Skipped::Start => {
-                self.boot = None;
-                true
-            }
-            Skipped::Speech => {
-                if boot.is_hopeless(now) {
-                    return false;
-                }
-                self.boot = Some(boot.after_speech(now));
-                true
-            }
-            Skipped::Nothing => {
-                if !boot.is_over(now) {
-                    return true;
-                }
-                self.line.forget_lines();
-                self.boot = None;
-                true
-            }
-        }
     }
 }
 
@@ -160,7 +118,7 @@ impl<D: Dial + Drop> Link for PortLink<D> {
 
     ghost kind = { λ _. record {
       slots = 4;
-      numbered = false;
+      oks = record { numbered = false; lost = false };
       prompt = false;
       listed = names_port;
     } };
@@ -181,24 +139,41 @@ impl<D: Dial + Drop> Link for PortLink<D> {
 
         // Whether the link waits for the printer first.
         ensures wait { OnOk result
-            (is_some self.new.boot ≡ waits_for self.old.boot_ms name.now) }
+            (is_some self.new.boot
+            ≡ (is_connecting self.new.boot || waits_for self.old.boot_ms name.now)) }
         ensures boot { self.new.boot_ms ≡ self.old.boot_ms }
 
         ensures no_port { IsErrOf result fault.NoPort ↔ (names_port name.now ≡ false) }
         ensures up { OnOk result (self.new.up ≡ true) }
         ensures down { OnErr result (self.new.up ≡ false) }
         ensures counts { Counts (IsErrOf result fault.Failed) self.old.faults self.new.faults }
+        ensures one_fault { IsErrOf result fault.Failed
+            → self.new.faults ≡ one_more self.old.faults }
+        ensures steady { OnOk result (self.new.faults ≡ self.old.faults) }
+        ensures none { IsErrOf result fault.NoPort → self.new.faults ≡ self.old.faults }
+        ensures cause { IsErrOf result fault.Failed → is_some self.new.line.cause ≡ true }
     {
         if !names_port(name) {
             self.ports.refuse(name);
             return Err(LinkFault::NoPort);
         }
-        let Some(stream) = self.ports.open(name) else {
-            return Err(self.fail());
+        let opened = match self.ports.open(name) {
+            Ok(opened) => opened,
+            Err(cause) => {
+                self.line.cause = Some(cause);
+                return Err(self.fail());
+            }
         };
-        let reads_wait = self.ports.reads_wait(&stream);
-        self.line.begin(stream, reads_wait);
-        self.boot = wait_from(self.ports.now(), self.boot_ms, name);
+        match opened {
+            Opened::Ready(stream) => {
+                self.begin(stream);
+                self.boot = stage_from(self.ports.now(), self.boot_ms, name);
+            }
+            Opened::Pending(stream) => {
+                self.begin(stream);
+                self.boot = Some(Stage::Connecting(boot_of(self.boot_ms, name)));
+            }
+        }
         self.up = true;
         Ok(())
     }
@@ -224,7 +199,10 @@ impl<D: Dial + Drop> Link for PortLink<D> {
         ensures down { OnErr result (self.new.up ≡ false) }
         ensures closed { OnErr result (self.new.line.stream ≡ None) }
         ensures counts { Counts (IsErr result) self.old.faults self.new.faults }
+        ensures one_fault { OnErr result (self.new.faults ≡ one_more self.old.faults) }
         ensures steady { OnOk result (self.new.faults ≡ self.old.faults) }
+        ensures cause { OnErr result (is_some self.new.line.cause ≡ true) }
+        ensures same { OnOk result (self.new.line.cause ≡ self.old.line.cause) }
     {
         if self.line.gather(line, self.boot.is_some()) {
             return Ok(());
@@ -284,18 +262,21 @@ impl<D: Dial + Drop> Link for PortLink<D> {
         // And its last reading didn't find the end of the stream, as when the peer has closed.
         ensures peer { self.old.boot ≡ None
             → list_any ends_line self.old.line.lines.waiting ≡ false
-            → OnOk result (self.new.line.lines.ended ≡ false) }
+            → OnOk result (self.new.line.lines.end ≡ None) }
 
         ensures no_port { IsErrOf result fault.NoPort → ⊥ }
         ensures up { OnOk result (self.new.up ≡ true) }
         ensures down { OnErr result (self.new.up ≡ false) }
         ensures closed { OnErr result (self.new.line.stream ≡ None) }
         ensures counts { Counts (IsErr result) self.old.faults self.new.faults }
+        ensures one_fault { OnErr result (self.new.faults ≡ one_more self.old.faults) }
         ensures steady { OnOk result (self.new.faults ≡ self.old.faults) }
+        ensures cause { OnErr result (is_some self.new.line.cause ≡ true) }
+        ensures same { OnOk result (self.new.line.cause ≡ self.old.line.cause) }
     {
         match self.boot {
-            Some(boot) => {
-                if self.wait(boot) {
+            Some(stage) => {
+                if self.wait(stage) {
                     return Ok(Heard::Nothing);
                 }
             }

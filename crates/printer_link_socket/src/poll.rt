@@ -1,6 +1,4 @@
 //! Waiting for a stream of the system.
-use libc::net::{POLLOUT, poll};
-use libc::types::pollfd;
 use octo_outside_bell::Ear;
 use std::os::fd::AsRawFd;
 
@@ -14,14 +12,4 @@ const DEAF_WAIT: u16 = 1;
 pub(crate) fn may_read<S: AsRawFd>(stream: &S, ear: &Ear) -> bool {
     let wait = if ear.is_deaf() { DEAF_WAIT } else { WAIT };
     ear.wait_beside(stream.as_raw_fd(), wait)
-}
-
-/// Whether there is room for a write within that many milliseconds, or the poll failed.
-pub(crate) fn may_write<S: AsRawFd>(stream: &S, wait: i32) -> bool {
-    let mut asked = [pollfd {
-        fd: stream.as_raw_fd(),
-        events: POLLOUT,
-        revents: 0,
-    }];
-    poll(&mut asked, wait) != 0
 }

@@ -1,15 +1,19 @@
 //! Lines on their way to a stream.
-ghost use Rattle.std.specs.Prelude.{◌≡◌, ◌+◌, ◌≤◌, ◌++◌, ◌∷◌, ◌↔◌, ℕ, List, [], true, length, IsTrue};
-ghost use Rattle.std.specs.Io.KnownBytes.{Appends};
+ghost use Rattle.std.specs.Prelude.{◌≡◌, ◌+◌, ◌<◌, ◌≤◌, ◌++◌, ◌∷◌, ◌↔◌, ℕ, List, [], length, take, IfOk, IsTrue, OnErr, OnOk};
+ghost use Rattle.std.specs.Io.KnownBytes.{Appends, Keeps};
 
 use arrayvec::ArrayVec;
 use byte_text::{Line, append};
-use octo_outside_sockets::write_some;
+use octo_outside_sockets::may_come_later;
+use printer_link_cause::{Cause, cause_of};
 use std::io::Write;
 use std::marker::Model;
 
 // Room for sixteen of the longest lines, each with its line feed.
 const ROOM: usize = 1552;
+
+// How often a write that would block is tried.
+const TRIES: u32 = 1000;
 
 /// Lines that were sent and aren't written yet, each with its line feed.
 #[derive(Drop)]
@@ -23,20 +27,48 @@ impl Model for Unsent {
     ghost view = { λ u. u.bytes.items };
 }
 
-// Writes all the bytes. Returns `false` if the stream failed or blocked for too long.
+// Writes 1 to all of the bytes, a prefix. Otherwise it says why the stream failed, or that it blocked for too long.
+#[tactic(auto, using(octo_outside_sockets::proofs::Written::keeps_self, octo_outside_sockets::proofs::Written::keeps_then, octo_outside_sockets::proofs::Written::keeps_appends, octo_outside_sockets::proofs::Written::appends_none))]
+fn write_some<S: Write>(stream: &mut S, bytes: &[u8]) -> Result<usize, Cause>
+    ensures some { IfOk result (λ n. 0 < n) }
+    ensures bound { IfOk result (λ n. n ≤ length bytes.now) }
+    ensures written { IfOk result
+        (λ n. Appends (S.Write.contents stream.old) (S.Write.contents stream.new)
+        (take n bytes.now)) }
+    ensures none { OnErr result
+        (Keeps (S.Write.contents stream.old) (S.Write.contents stream.new)) }
+{
+    for _ in 0..TRIES {
+        match stream.write(bytes) {
+            Ok(n) => return if n > 0 {
+                Ok(n)
+            } else {
+                Err(Cause::TakesNothing)
+            },
+            Err(error) => {
+                if !may_come_later(&error) {
+                    return Err(cause_of(&error));
+                }
+            }
+        }
+    }
+    Err(Cause::ReadsNothing)
+}
+
+// Writes all the bytes, or says why the stream failed.
 #[tactic(auto, using(crate::proofs::Cuts::appends_start))]
-fn write_whole<S: Write>(stream: &mut S, bytes: &[u8]) -> bool
-    ensures { result ≡ true
-        → Appends (S.Write.contents stream.old) (S.Write.contents stream.new) bytes.now }
+fn write_whole<S: Write>(stream: &mut S, bytes: &[u8]) -> Result<(), Cause>
+    ensures { OnOk result
+        (Appends (S.Write.contents stream.old) (S.Write.contents stream.new) bytes.now) }
 {
     let mut done = 0;
     while done < bytes.len() {
         match write_some(stream, &bytes[done..]) {
-            Some(n) => done += n,
-            None => return false,
+            Ok(n) => done += n,
+            Err(cause) => return Err(cause),
         }
     }
-    true
+    Ok(())
 }
 
 impl Unsent {
@@ -65,10 +97,10 @@ impl Unsent {
         self.bytes.push(b'\n');
     }
 
-    /// Writes all lines and forgets them. Returns `false` if the stream failed or blocked for too long.
-    pub fn write<S: Write>(&mut self, stream: &mut S) -> bool
-        ensures written { result ≡ true
-            → Appends (S.Write.contents stream.old) (S.Write.contents stream.new) self.old }
+    /// Writes all lines and forgets them. It says why the stream failed, if it did or blocked for too long.
+    pub fn write<S: Write>(&mut self, stream: &mut S) -> Result<(), Cause>
+        ensures written { OnOk result
+            (Appends (S.Write.contents stream.old) (S.Write.contents stream.new) self.old) }
         ensures forgotten { self.new ≡ [] }
     {
         let written = write_whole(stream, self.bytes.as_slice());

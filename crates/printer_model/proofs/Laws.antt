@@ -10,8 +10,9 @@ use Rattle.printer_model.specs.World.{is_run}
 use Rattle.marlin_reply.specs.Kind.{is_chatter}
 use Rattle.printer_model.specs.declared.printer.Reason.{Reason}
 use Rattle.printer_model.specs.declared.printer.Taken.TheVariants.{Accepted, Full}
+use Rattle.printer_model.specs.declared.oks.Oks.{Oks}
 use Rattle.printer_model.specs.declared.event.WorldEvent.{WorldEvent}
-use Rattle.printer_model.specs.declared.event.WorldEvent.TheVariants.{Opened, Send, Arrive, Lose, Garble, Run, Restart, Chatter, Recv, Closed}
+use Rattle.printer_model.specs.declared.event.WorldEvent.TheVariants.{Opened, Send, Arrive, Lose, LoseReply, Garble, Run, Restart, Chatter, Recv, Closed}
 
 -- events in two parts
 pub world_from-append : (w : WorldData) (first more : List WorldEvent) → world_from w (first ++ more) ≡ world_from (world_from w first) more
@@ -21,11 +22,11 @@ world_from-append w first more = fold-append apply w first more
 pub world_from-push : (w : WorldData) (past : List WorldEvent) (event : WorldEvent) → world_from w (past ++ event ∷ []) ≡ apply (world_from w past) event
 world_from-push w past event = world_from-append w past (event ∷ [])
 
-pub world_of-append : (slots : ℕ) (numbered : Bool) (past added : List WorldEvent) → world_of slots numbered (past ++ added) ≡ world_from (world_of slots numbered past) added
-world_of-append slots numbered past added = world_from-append (new_world slots numbered) past added
+pub world_of-append : (slots : ℕ) (oks : Oks) (past added : List WorldEvent) → world_of slots oks (past ++ added) ≡ world_from (world_of slots oks past) added
+world_of-append slots oks past added = world_from-append (new_world slots oks) past added
 
-pub world_of-push : (slots : ℕ) (numbered : Bool) (past : List WorldEvent) (event : WorldEvent) → world_of slots numbered (past ++ event ∷ []) ≡ apply (world_of slots numbered past) event
-world_of-push slots numbered past event = world_from-push (new_world slots numbered) past event
+pub world_of-push : (slots : ℕ) (oks : Oks) (past : List WorldEvent) (event : WorldEvent) → world_of slots oks (past ++ event ∷ []) ≡ apply (world_of slots oks past) event
+world_of-push slots oks past event = world_from-push (new_world slots oks) past event
 
 -- an event that can happen happens
 pub happens : (w : WorldData) (event : WorldEvent) → can_happen w event ≡ true → apply w event ≡ happen w event
@@ -66,6 +67,7 @@ happen-Grew w (Opened last) = Grew-refl w.log
 happen-Grew w (Send line) = Grew-refl w.log
 happen-Grew w Arrive = record { added = []; is = arrived_log w w.up ∙ sym (append-nil w.log) }
 happen-Grew w (Lose at) = Grew-refl w.log
+happen-Grew w (LoseReply at) = Grew-refl w.log
 happen-Grew w (Garble at line) = Grew-refl w.log
 happen-Grew w Run = ran_log w w.printer.queue
 happen-Grew w Restart = Grew-refl w.log
@@ -87,6 +89,7 @@ happen-log w (Opened last) _ = refl
 happen-log w (Send line) _ = refl
 happen-log w Arrive _ = arrived_log w w.up
 happen-log w (Lose at) _ = refl
+happen-log w (LoseReply at) _ = refl
 happen-log w (Garble at line) _ = refl
 happen-log w Run no_run = absurd (cc)
 happen-log w Restart _ = refl
@@ -99,10 +102,10 @@ pub apply-log : (w : WorldData) (event : WorldEvent) → is_run event ≡ false 
 apply-log w event no_run = after_event (λ (v : WorldData). v.log ≡ w.log) w event refl (λ _. happen-log w event no_run)
 
 pub IsSameKind-refl : (p : PrinterData) → IsSameKind p p
-IsSameKind-refl p = record { slots = refl; numbered = refl }
+IsSameKind-refl p = record { slots = refl; oks = refl }
 
 take_judged-IsSameKind : (p : PrinterData) (what : Result Entry Reason) → IsSameKind p (take_judged p what).1
-take_judged-IsSameKind p (Ok entry) = record { slots = refl; numbered = refl }
+take_judged-IsSameKind p (Ok entry) = record { slots = refl; oks = refl }
 take_judged-IsSameKind p (Err reason) = IsSameKind-refl p
 
 -- a line that is taken leaves the buffer slots and the kind of acknowledgements
@@ -117,16 +120,17 @@ arrived-IsSameKind w (line ∷ behind) = take_line-IsSameKind w.printer line
 
 ran-IsSameKind : (w : WorldData) (queue : List Entry) → IsSameKind w.printer (after_run w (run_queue w.printer queue)).printer
 ran-IsSameKind w [] = IsSameKind-refl w.printer
-ran-IsSameKind w (entry ∷ behind) = record { slots = refl; numbered = refl }
+ran-IsSameKind w (entry ∷ behind) = record { slots = refl; oks = refl }
 
 happen-IsSameKind : (w : WorldData) (event : WorldEvent) → IsSameKind w.printer (happen w event).printer
-happen-IsSameKind w (Opened last) = record { slots = refl; numbered = refl }
+happen-IsSameKind w (Opened last) = record { slots = refl; oks = refl }
 happen-IsSameKind w (Send line) = IsSameKind-refl w.printer
 happen-IsSameKind w Arrive = arrived-IsSameKind w w.up
 happen-IsSameKind w (Lose at) = IsSameKind-refl w.printer
+happen-IsSameKind w (LoseReply at) = IsSameKind-refl w.printer
 happen-IsSameKind w (Garble at line) = IsSameKind-refl w.printer
 happen-IsSameKind w Run = ran-IsSameKind w w.printer.queue
-happen-IsSameKind w Restart = record { slots = refl; numbered = refl }
+happen-IsSameKind w Restart = record { slots = refl; oks = refl }
 happen-IsSameKind w (Chatter reply) = IsSameKind-refl w.printer
 happen-IsSameKind w Recv = IsSameKind-refl w.printer
 happen-IsSameKind w Closed = IsSameKind-refl w.printer
@@ -141,7 +145,7 @@ world_from-IsSameKind w [] = IsSameKind-refl w.printer
 world_from-IsSameKind w (event ∷ events) =
     let here = apply-IsSameKind w event in
     let behind = world_from-IsSameKind (apply w event) events in
-    record { slots = behind.slots ∙ here.slots; numbered = behind.numbered ∙ here.numbered }
+    record { slots = behind.slots ∙ here.slots; oks = behind.oks ∙ here.oks }
 
 arrived_linked : (w : WorldData) (up : List (List ℕ)) → (arrive_front w up).linked ≡ w.linked
 arrived_linked w [] = refl
@@ -156,6 +160,7 @@ happen-linked w (Opened last) free = absurd (cc)
 happen-linked w (Send line) free = absurd (cc)
 happen-linked w Arrive free = arrived_linked w w.up
 happen-linked w (Lose at) free = refl
+happen-linked w (LoseReply at) free = refl
 happen-linked w (Garble at line) free = refl
 happen-linked w Run free = ran_linked w w.printer.queue
 happen-linked w Restart free = refl
@@ -212,6 +217,7 @@ happen-printer w (Opened last) idle = absurd (cc)
 happen-printer w (Send line) idle = refl
 happen-printer w Arrive idle = absurd (cc)
 happen-printer w (Lose at) idle = refl
+happen-printer w (LoseReply at) idle = refl
 happen-printer w (Garble at line) idle = refl
 happen-printer w Run idle = absurd (cc)
 happen-printer w Restart idle = absurd (cc)
@@ -232,6 +238,7 @@ happen-up w (Opened last) idle = absurd (cc)
 happen-up w (Send line) idle = absurd (cc)
 happen-up w Arrive idle = absurd (cc)
 happen-up w (Lose at) idle = absurd (cc)
+happen-up w (LoseReply at) idle = refl
 happen-up w (Garble at line) idle = absurd (cc)
 happen-up w Run idle = ran_up w w.printer.queue
 happen-up w Restart idle = refl
@@ -239,7 +246,7 @@ happen-up w (Chatter reply) idle = refl
 happen-up w Recv idle = refl
 happen-up w Closed idle = absurd (cc)
 
--- Run, Restart, Chatter and Recv leave the wire to the printer
+-- LoseReply, Run, Restart, Chatter and Recv leave the wire to the printer
 pub apply-up : (w : WorldData) (event : WorldEvent) → moves_up event ≡ false → (apply w event).up ≡ w.up
 apply-up w event idle = after_event (λ (v : WorldData). v.up ≡ w.up) w event refl (λ _. happen-up w event idle)
 
@@ -248,6 +255,7 @@ happen-down w (Opened last) idle = absurd (cc)
 happen-down w (Send line) idle = refl
 happen-down w Arrive idle = absurd (cc)
 happen-down w (Lose at) idle = refl
+happen-down w (LoseReply at) idle = absurd (cc)
 happen-down w (Garble at line) idle = refl
 happen-down w Run idle = absurd (cc)
 happen-down w Restart idle = absurd (cc)
@@ -289,6 +297,7 @@ happen-tidy w (Opened last) can tidy = λ shut. absurd (cc)
 happen-tidy w (Send line) can tidy = open_only w (happen w (Send line)) (fits_wire line.items) can refl
 happen-tidy w Arrive can tidy = arrived_tidy w w.up refl tidy
 happen-tidy w (Lose at) can tidy = λ shut. let idle = tidy shut in record { up = ap (λ (up : List (List ℕ)). remove up at) idle.up ∙ nothing_out at; down = idle.down }
+happen-tidy w (LoseReply at) can tidy = λ shut. let idle = tidy shut in record { up = idle.up; down = ap (λ (down : List (List ℕ)). remove down at) idle.down ∙ nothing_out at }
 happen-tidy w (Garble at line) can tidy = λ shut. let idle = tidy shut in record { up = ap (λ (up : List (List ℕ)). slice_set up at line.items) idle.up; down = idle.down }
 happen-tidy w Run can tidy = ran_tidy w w.printer.queue tidy
 happen-tidy w Restart can tidy = λ shut. absurd (cc)
@@ -304,8 +313,8 @@ pub world_from-tidy : (w : WorldData) (events : List WorldEvent) → IsTidy w �
 world_from-tidy w [] tidy = tidy
 world_from-tidy w (event ∷ events) tidy = world_from-tidy (apply w event) events (apply-tidy w event tidy)
 
-pub world_of-tidy : (slots : ℕ) (numbered : Bool) (past : List WorldEvent) → IsTidy (world_of slots numbered past)
-world_of-tidy slots numbered past = world_from-tidy (new_world slots numbered) past (λ _. record { up = refl; down = refl })
+pub world_of-tidy : (slots : ℕ) (oks : Oks) (past : List WorldEvent) → IsTidy (world_of slots oks past)
+world_of-tidy slots oks past = world_from-tidy (new_world slots oks) past (λ _. record { up = refl; down = refl })
 
 -- what an arrival is, by the line at the front of the wire
 pub arrive_front_of : (w : WorldData) (line : List ℕ) (behind : List (List ℕ)) → w.up ≡ line ∷ behind → is_full w.printer ≡ false → apply w Arrive ≡ after_arrival w behind (take_judged w.printer (judged w.printer.last line))

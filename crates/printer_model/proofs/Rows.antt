@@ -11,7 +11,7 @@ use Rattle.printer_model.specs.declared.printer.Taken.TheVariants.{Accepted, Ref
 
 -- a printer whose last line was this one
 abbrev at : ℕ → PrinterData
-at last = record { last = last; slots = 4; numbered = false; queue = [] }
+at last = record { last = last; slots = 4; oks = record { numbered = false; lost = false }; queue = [] }
 
 -- a wrong number
 wrong_number : (take_line (at 4) (codes "N7 G28*20")).0 ≡ Refused WrongNumber 4
@@ -19,7 +19,7 @@ unfolding judged is_out_of_turn begins_with_n has_checksum fails line_number_of 
 wrong_number = refl
 
 -- the hello of any printer
-hello : (take_line (at 4) (codes "N0 M110 N1*124")) ≡ (Accepted, record { last = 1; slots = 4; numbered = false; queue = record { number = Some 1; n_parameter = Some 0; text = codes "M110 N1" } ∷ [] })
+hello : (take_line (at 4) (codes "N0 M110 N1*124")) ≡ (Accepted, record { last = 1; slots = 4; oks = record { numbered = false; lost = false }; queue = record { number = Some 1; n_parameter = Some 0; text = codes "M110 N1" } ∷ [] })
 unfolding judged is_out_of_turn begins_with_n checked_part has_checksum checksum_matches fails line_number_of n_parameter_of has_second_n has_m110 has_byte number_of leading_digits decimal_value xor_of text_of after_first_digits after_space
 hello = refl
 
@@ -39,7 +39,7 @@ unfolding judged is_out_of_turn begins_with_n checked_part has_checksum checksum
 bare = refl
 
 -- a line without a number
-plain : (take_line (at 4) (codes "M105")) ≡ (Accepted, record { last = 4; slots = 4; numbered = false; queue = record { number = None; n_parameter = None; text = codes "M105" } ∷ [] })
+plain : (take_line (at 4) (codes "M105")) ≡ (Accepted, record { last = 4; slots = 4; oks = record { numbered = false; lost = false }; queue = record { number = None; n_parameter = None; text = codes "M105" } ∷ [] })
 unfolding judged begins_with_n
 plain = refl
 

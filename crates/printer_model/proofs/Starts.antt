@@ -7,8 +7,9 @@ use Rattle.printer_model.specs.Printer.{Logged}
 use Rattle.printer_model.specs.World.{WorldData, apply, world_from, world_of, is_free, is_run}
 use Rattle.printer_model.specs.Executed.{opens, till, is_counted, executed}
 use Rattle.printer_model.specs.Exchanged.{events_of_session, received_by, received_from, sent_by, sends_since}
+use Rattle.printer_model.specs.declared.oks.Oks.{Oks}
 use Rattle.printer_model.specs.declared.event.WorldEvent.{WorldEvent}
-use Rattle.printer_model.specs.declared.event.WorldEvent.TheVariants.{Opened, Send, Arrive, Lose, Garble, Run, Restart, Chatter, Recv, Closed}
+use Rattle.printer_model.specs.declared.event.WorldEvent.TheVariants.{Opened, Send, Arrive, Lose, LoseReply, Garble, Run, Restart, Chatter, Recv, Closed}
 use Rattle.printer_model.proofs.Sessions.{till-all, opens-append}
 use Rattle.std.proofs.lemmas.Bool.{and_parts}
 
@@ -17,6 +18,7 @@ free_opens_none (Opened last) past free = absurd (cc)
 free_opens_none (Send line) past free = absurd (cc)
 free_opens_none Arrive past free = refl
 free_opens_none (Lose at) past free = refl
+free_opens_none (LoseReply at) past free = refl
 free_opens_none (Garble at line) past free = refl
 free_opens_none Run past free = refl
 free_opens_none Restart past free = refl
@@ -36,6 +38,7 @@ run_is_free (Opened last) run = absurd (cc)
 run_is_free (Send line) run = absurd (cc)
 run_is_free Arrive run = refl
 run_is_free (Lose at) run = refl
+run_is_free (LoseReply at) run = refl
 run_is_free (Garble at line) run = refl
 run_is_free Run run = refl
 run_is_free Restart run = refl
@@ -62,6 +65,7 @@ till-stop (Opened l ∷ past) rest last = ap (λ (es : List WorldEvent). Opened 
 till-stop (Send line ∷ past) rest last = ap (λ (es : List WorldEvent). Send line ∷ es) (till-stop past rest last)
 till-stop (Arrive ∷ past) rest last = ap (λ (es : List WorldEvent). Arrive ∷ es) (till-stop past rest last)
 till-stop (Lose at ∷ past) rest last = ap (λ (es : List WorldEvent). Lose at ∷ es) (till-stop past rest last)
+till-stop (LoseReply at ∷ past) rest last = ap (λ (es : List WorldEvent). LoseReply at ∷ es) (till-stop past rest last)
 till-stop (Garble at line ∷ past) rest last = ap (λ (es : List WorldEvent). Garble at line ∷ es) (till-stop past rest last)
 till-stop (Run ∷ past) rest last = ap (λ (es : List WorldEvent). Run ∷ es) (till-stop past rest last)
 till-stop (Restart ∷ past) rest last = ap (λ (es : List WorldEvent). Restart ∷ es) (till-stop past rest last)
@@ -91,15 +95,15 @@ session_of-last front rest last none =
     ∙ drop-append_seam front (Opened last ∷ rest)
 
 -- and what was executed in it is what the log gained from that Opened on
-pub executed-from : (slots : ℕ) (numbered : Bool) (front rest : List WorldEvent) (last : ℕ) (lines : List Logged) → opens rest ≡ 0 →
-    (world_of slots numbered (front ++ Opened last ∷ rest)).log ≡ (world_of slots numbered front).log ++ lines →
-    executed slots numbered (front ++ Opened last ∷ rest) (suc (opens front)) ≡ filter is_counted lines
-executed-from slots numbered front rest last lines none grew =
+pub executed-from : (slots : ℕ) (oks : Oks) (front rest : List WorldEvent) (last : ℕ) (lines : List Logged) → opens rest ≡ 0 →
+    (world_of slots oks (front ++ Opened last ∷ rest)).log ≡ (world_of slots oks front).log ++ lines →
+    executed slots oks (front ++ Opened last ∷ rest) (suc (opens front)) ≡ filter is_counted lines
+executed-from slots oks front rest last lines none grew =
     let all = front ++ Opened last ∷ rest in
-    let start = (world_of slots numbered front).log in
+    let start = (world_of slots oks front).log in
     let is = last_session front rest last none in
-    ap (λ (es : List WorldEvent). filter is_counted (drop (length (world_of slots numbered es).log) (world_of slots numbered (till (suc (opens front)) all)).log)) is.before
-    ∙ ap (λ (es : List WorldEvent). filter is_counted (drop (length start) (world_of slots numbered es).log)) is.here
+    ap (λ (es : List WorldEvent). filter is_counted (drop (length (world_of slots oks es).log) (world_of slots oks (till (suc (opens front)) all)).log)) is.before
+    ∙ ap (λ (es : List WorldEvent). filter is_counted (drop (length start) (world_of slots oks es).log)) is.here
     ∙ ap (λ (log : List Logged). filter is_counted (drop (length start) log)) grew
     ∙ ap (filter is_counted) (drop-append_seam start lines)
 
@@ -111,6 +115,7 @@ till_before (suc s) (Opened l ∷ past) rest last within = ap (λ (es : List Wor
 till_before s (Send line ∷ past) rest last within = ap (λ (es : List WorldEvent). Send line ∷ es) (till_before s past rest last within)
 till_before s (Arrive ∷ past) rest last within = ap (λ (es : List WorldEvent). Arrive ∷ es) (till_before s past rest last within)
 till_before s (Lose at ∷ past) rest last within = ap (λ (es : List WorldEvent). Lose at ∷ es) (till_before s past rest last within)
+till_before s (LoseReply at ∷ past) rest last within = ap (λ (es : List WorldEvent). LoseReply at ∷ es) (till_before s past rest last within)
 till_before s (Garble at line ∷ past) rest last within = ap (λ (es : List WorldEvent). Garble at line ∷ es) (till_before s past rest last within)
 till_before s (Run ∷ past) rest last within = ap (λ (es : List WorldEvent). Run ∷ es) (till_before s past rest last within)
 till_before s (Restart ∷ past) rest last within = ap (λ (es : List WorldEvent). Restart ∷ es) (till_before s past rest last within)
@@ -123,13 +128,13 @@ pred_within zero n within = within
 pred_within (suc s) n within = omega arith
 
 -- another session leaves what was executed in those before it
-pub executed-before : (slots : ℕ) (numbered : Bool) (past rest : List WorldEvent) (last s : ℕ) → s ≤ opens past →
-    executed slots numbered (past ++ Opened last ∷ rest) s ≡ executed slots numbered past s
-executed-before slots numbered past rest last s within =
+pub executed-before : (slots : ℕ) (oks : Oks) (past rest : List WorldEvent) (last s : ℕ) → s ≤ opens past →
+    executed slots oks (past ++ Opened last ∷ rest) s ≡ executed slots oks past s
+executed-before slots oks past rest last s within =
     let all = past ++ Opened last ∷ rest in
-    ap (λ (es : List WorldEvent). filter is_counted (drop (length (world_of slots numbered es).log) (world_of slots numbered (till s all)).log))
+    ap (λ (es : List WorldEvent). filter is_counted (drop (length (world_of slots oks es).log) (world_of slots oks (till s all)).log))
     (till_before (pred s) past rest last (pred_within s (opens past) within))
-    ∙ ap (λ (es : List WorldEvent). filter is_counted (drop (length (world_of slots numbered (till (pred s) past)).log) (world_of slots numbered es).log))
+    ∙ ap (λ (es : List WorldEvent). filter is_counted (drop (length (world_of slots oks (till (pred s) past)).log) (world_of slots oks es).log))
     (till_before s past rest last within)
 
 -- what is received by events in two parts
@@ -145,6 +150,7 @@ free_gives_none w (Opened last) free = refl
 free_gives_none w (Send line) free = refl
 free_gives_none w Arrive free = refl
 free_gives_none w (Lose at) free = refl
+free_gives_none w (LoseReply at) free = refl
 free_gives_none w (Garble at line) free = refl
 free_gives_none w Run free = refl
 free_gives_none w Restart free = refl
@@ -171,6 +177,7 @@ free_sends_none count (Opened last) free = refl
 free_sends_none count (Send line) free = absurd (cc)
 free_sends_none count Arrive free = refl
 free_sends_none count (Lose at) free = refl
+free_sends_none count (LoseReply at) free = refl
 free_sends_none count (Garble at line) free = refl
 free_sends_none count Run free = refl
 free_sends_none count Restart free = refl

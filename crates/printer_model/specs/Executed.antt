@@ -3,6 +3,7 @@ use Rattle.std.specs.Prelude.{ℕ, zero, suc, pred, Bool, true, false, not, ◌=
 use Rattle.marlin_frame.specs.Numbering.{hello_number, wire_number}
 use Rattle.printer_model.specs.Printer.{Logged}
 use Rattle.printer_model.specs.World.{world_of, is_opened}
+use Rattle.printer_model.specs.declared.oks.Oks.{Oks}
 use Rattle.printer_model.specs.declared.event.WorldEvent.{WorldEvent}
 
 -- how many sessions a recorded history has
@@ -37,13 +38,13 @@ abbrev pub is_counted : Logged → Bool
 is_counted line = not (is_hello line.number)
 
 -- what the printer had run by the end of session s
-abbrev pub log_till : ℕ → Bool → ℕ → List WorldEvent → List Logged
-log_till slots numbered s past = (world_of slots numbered (till s past)).log
+abbrev pub log_till : ℕ → Oks → ℕ → List WorldEvent → List Logged
+log_till slots oks s past = (world_of slots oks (till s past)).log
 
 -- the lines run in session s, without the hello; the first session is 1, and a session lasts till the next `Opened`
-abbrev pub executed : ℕ → Bool → List WorldEvent → ℕ → List Logged
-executed slots numbered past s =
-    filter is_counted (drop (length (log_till slots numbered (pred s) past)) (log_till slots numbered s past))
+abbrev pub executed : ℕ → Oks → List WorldEvent → ℕ → List Logged
+executed slots oks past s =
+    filter is_counted (drop (length (log_till slots oks (pred s) past)) (log_till slots oks s past))
 
 -- texts as the printer's log has them, numbered from the line at a place on
 abbrev pub logged_from : ℕ → List (List ℕ) → List Logged

@@ -3,6 +3,7 @@ use Rattle.std.specs.Prelude.{◌≡◌, ◌⊎◌, true, ℕ, ◌+◌, ◌-◌,
 use Rattle.byte_text.specs.Marks.{has_m110}
 use Rattle.marlin_frame.specs.Frame.{begins_with_n, has_checksum, fails, n_parameter_of, line_number_of, text_of}
 use Rattle.printer_model.specs.Replies.{run_reply}
+use Rattle.printer_model.specs.declared.oks.Oks.{Oks}
 use Rattle.printer_model.specs.declared.printer.Reason.{Reason}
 use Rattle.printer_model.specs.declared.printer.Reason.TheVariants.{WrongNumber, NoChecksum, Mismatch}
 use Rattle.printer_model.specs.declared.printer.Taken.{Taken}
@@ -25,11 +26,11 @@ pub record RanLine : Type 0 where
   pub text : List ℕ
   pub reply : List ℕ
 
--- the printer: the last line number, how many entries may wait, whether a reply names its line, and what waits
+-- the printer: the last line number, how many entries may wait, its `ok`s, and what waits
 pub record PrinterData : Type 0 where
   pub last : ℕ
   pub slots : ℕ
-  pub numbered : Bool
+  pub oks : Oks
   pub queue : List Entry
 
 -- whether as many entries wait as may
@@ -82,7 +83,7 @@ ran_line p entry =
     record {
       number = entry.number;
       text = entry.text;
-      reply = run_reply p.numbered entry.n_parameter entry.text (p.slots - length p.queue);
+      reply = run_reply p.oks.numbered entry.n_parameter entry.text (p.slots - length p.queue);
     }
 
 -- the front of a queue is run
@@ -109,7 +110,7 @@ waiting_as entry = record { number = entry.number; text = entry.text }
 -- two states of a printer of the same make
 pub record IsSameKind (old new : PrinterData) : Type 0 where
   pub slots : new.slots ≡ old.slots
-  pub numbered : new.numbered ≡ old.numbered
+  pub oks : new.oks ≡ old.oks
 
 -- a line follows the last number or sets it
 abbrev pub IsInTurn : ℕ → List ℕ → Type 0

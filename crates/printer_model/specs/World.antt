@@ -5,8 +5,9 @@ use Rattle.marlin_reply.specs.Kind.{is_chatter}
 use Rattle.printer_model.specs.Printer.{PrinterData, Logged, RanLine, is_full, take_line, run_front, printer_after_restart, log_line_of, waiting_as}
 use Rattle.printer_model.specs.Replies.{taken_replies, start_line}
 use Rattle.printer_model.specs.declared.printer.Taken.{Taken}
+use Rattle.printer_model.specs.declared.oks.Oks.{Oks}
 use Rattle.printer_model.specs.declared.event.WorldEvent.{WorldEvent}
-use Rattle.printer_model.specs.declared.event.WorldEvent.TheVariants.{Opened, Send, Arrive, Lose, Garble, Run, Restart, Chatter, Recv, Closed}
+use Rattle.printer_model.specs.declared.event.WorldEvent.TheVariants.{Opened, Send, Arrive, Lose, LoseReply, Garble, Run, Restart, Chatter, Recv, Closed}
 
 -- whether a link is made, the printer, what it ran, the wire to the printer (`up`) and the wire from it (`down`). The `up` of a link or a
 -- session is another thing: it is `linked` here
@@ -17,12 +18,12 @@ pub record WorldData : Type 0 where
   pub up : List (List ℕ)
   pub down : List (List ℕ)
 
--- before the first event: the printer has this many buffer slots, and its `ok`s are numbered or not
-abbrev pub new_world : ℕ → Bool → WorldData
-new_world slots numbered =
+-- before the first event: the printer has this many buffer slots, and such `ok`s
+abbrev pub new_world : ℕ → Oks → WorldData
+new_world slots oks =
     record {
       linked = false;
-      printer = record { last = 0; slots = slots; numbered = numbered; queue = [] };
+      printer = record { last = 0; slots = slots; oks = oks; queue = [] };
       log = [];
       up = [];
       down = [];
@@ -41,6 +42,7 @@ fits_wire line = nat_le (length line) 95
 abbrev pub is_free : WorldEvent → Bool
 is_free Arrive = true
 is_free (Lose at) = true
+is_free (LoseReply at) = true
 is_free (Garble at line) = true
 is_free Run = true
 is_free Restart = true
@@ -83,6 +85,7 @@ moves_printer _ = false
 
 -- whether an event may change the wire to the printer
 abbrev pub moves_up : WorldEvent → Bool
+moves_up (LoseReply at) = false
 moves_up Run = false
 moves_up Restart = false
 moves_up (Chatter reply) = false
@@ -102,6 +105,7 @@ can_happen w (Opened last) = not w.linked && is_empty w.printer.queue
 can_happen w (Send line) = w.linked && fits_wire line.items
 can_happen w Arrive = not (is_empty w.up) && not (is_full w.printer)
 can_happen w (Lose at) = nat_lt at (length w.up)
+can_happen w (LoseReply at) = w.printer.oks.lost && nat_lt at (length w.down)
 can_happen w (Garble at line) = nat_lt at (length w.up) && (fails line.items && fits_wire line.items)
 can_happen w Run = not (is_empty w.printer.queue)
 can_happen w Restart = w.linked
@@ -142,6 +146,7 @@ happen w (Opened last) = record w { linked = true; printer = record w.printer { 
 happen w (Send line) = record w { up = w.up ++ line.items ∷ [] }
 happen w Arrive = arrive_front w w.up
 happen w (Lose at) = record w { up = remove w.up at }
+happen w (LoseReply at) = record w { down = remove w.down at }
 happen w (Garble at line) = record w { up = slice_set w.up at line.items }
 happen w Run = after_run w (run_front w.printer)
 happen w Restart = after_restart w
@@ -172,8 +177,8 @@ abbrev pub world_from : WorldData → List WorldEvent → WorldData
 world_from w events = fold apply w events
 
 -- the world after a recorded history
-abbrev pub world_of : ℕ → Bool → List WorldEvent → WorldData
-world_of slots numbered past = world_from (new_world slots numbered) past
+abbrev pub world_of : ℕ → Oks → List WorldEvent → WorldData
+world_of slots oks past = world_from (new_world slots oks) past
 
 -- without a link nothing is on the wires
 pub record IsShut (w : WorldData) : Type 0 where

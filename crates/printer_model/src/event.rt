@@ -15,6 +15,8 @@ pub enum WorldEvent {
     Arrive,
     /// The line at this place of the wire to the printer is lost; places are counted from 0.
     Lose { at: u32 },
+    /// The reply line at this place of the wire from the printer is lost, if replies may be lost.
+    LoseReply { at: u32 },
     /// The line at this place becomes another one, of at most 95 bytes, that begins with `N` and fails its checksum.
     Garble { at: u32, line: Line },
     /// The printer runs the front of its queue.

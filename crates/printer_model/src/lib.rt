@@ -5,6 +5,7 @@
 mod corrupt;
 mod event;
 mod executed;
+mod oks;
 mod printer;
 mod replies;
 mod session_executed;
@@ -16,6 +17,7 @@ mod world;
 pub use corrupt::corrupted;
 pub use event::WorldEvent;
 pub use executed::ExecutedLine;
+pub use oks::Oks;
 pub use printer::{Printer, Ran, Reason, Taken};
 pub use replies::{error_line, ok_line, resend_line, start_line};
 pub use session_executed::Executed;

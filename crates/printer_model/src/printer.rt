@@ -7,6 +7,7 @@ ghost use Rattle.byte_text.specs.declared.texts.TheConstants.{MOST_LINE_BYTES};
 ghost use Rattle.printer_model.specs.Replies.{run_reply};
 ghost use Rattle.printer_model.specs.Printer.{is_full, judged, is_out_of_turn, number_or, last_after, numbered_entry, plain_entry, printer_after_restart, run_front, take_line};
 
+use crate::oks::Oks;
 use crate::replies::run_reply;
 use arrayvec::ArrayVec;
 use byte_text::{Line, ReplyLine, bounded_text, has_m110};
@@ -67,13 +68,13 @@ impl Model for Waiting {
     ghost view = { λ w. record { number = w.number; n_parameter = w.n_parameter; text = w.text.items } };
 }
 
-/// The printer without a record of what it ran: its last line number, its buffer slots, whether its
-/// acknowledgements are numbered, and what waits.
+/// The printer without a record of what it ran: its last line number, its buffer slots, its acknowledgements, and what
+/// waits.
 #[derive(Drop)]
 pub struct Printer {
     last: u32,
     slots: u8,
-    numbered: bool,
+    oks: Oks,
     queue: ArrayVec<Waiting, 16>,
 }
 
@@ -86,7 +87,7 @@ impl Model for Printer {
     ghost view = { λ p. record {
       last = p.last;
       slots = p.slots;
-      numbered = p.numbered;
+      oks = p.oks;
       queue = p.queue.items;
     } };
 
@@ -94,22 +95,21 @@ impl Model for Printer {
 }
 
 impl Printer {
-    /// A printer with this last line number, 1 to 16 buffer slots, and numbered acknowledgements if `numbered` is
-    /// set. Nothing waits.
-    pub fn new(last: u32, slots: u8, numbered: bool) -> Self
+    /// A printer with this last line number, 1 to 16 buffer slots and these acknowledgements. Nothing waits.
+    pub fn new(last: u32, slots: u8, oks: Oks) -> Self
         requires some { 1 ≤ slots }
         requires few { slots ≤ 16 }
         ensures { result ≡ record {
           last = last;
           slots = slots;
-          numbered = numbered;
+          oks = oks;
           queue = [];
         } }
     {
         Printer {
             last,
             slots,
-            numbered,
+            oks,
             queue: ArrayVec::new(),
         }
     }
@@ -164,7 +164,7 @@ impl Printer {
         match self.queue.as_slice() {
             [] => None,
             [entry, ..] => Some(ran_line(
-                self.numbered,
+                self.oks.numbered,
                 self.slots - self.queue.len() as u8,
                 entry,
             )),
@@ -189,6 +189,13 @@ impl Printer {
     {
         self.last = 0;
         self.queue.clear();
+    }
+
+    // Its acknowledgements.
+    pub(crate) fn oks(&self) -> Oks
+        ensures { result ≡ self.now.oks }
+    {
+        self.oks
     }
 
     // How many entries wait.

@@ -3,7 +3,7 @@ ghost use Rattle.std.specs.Prelude.{◌≡◌, ◌≤◌, drop, filter, IfOk};
 ghost use Rattle.printer_model.specs.World.{is_opened, world_of};
 ghost use Rattle.printer_model.specs.Executed.{executed, is_counted, sessions_left_after, till};
 
-use crate::{ExecutedLine, World, WorldEvent};
+use crate::{ExecutedLine, Oks, World, WorldEvent};
 use byte_text::bounded_text;
 use marlin_frame::HELLO_NUMBER;
 use std::alloc::{AllocError, Global};
@@ -30,16 +30,16 @@ impl Executed {
     pub fn of_session(
         alloc: Global,
         slots: u8,
-        numbered: bool,
+        oks: Oks,
         past: &[WorldEvent],
         session: u32,
     ) -> Result<Self, AllocError>
         requires some { 1 ≤ slots }
         requires few { slots ≤ 16 }
-        ensures { IfOk result (λ e. e ≡ executed slots numbered past.now session) }
+        ensures { IfOk result (λ e. e ≡ executed slots oks past.now session) }
     {
-        let before = replay(alloc, slots, numbered, past, session.saturating_sub(1))?;
-        let whole = replay(alloc, slots, numbered, past, session)?;
+        let before = replay(alloc, slots, oks, past, session.saturating_sub(1))?;
+        let whole = replay(alloc, slots, oks, past, session)?;
         counted_lines(alloc, after(whole.log(), before.log().len()))
     }
 
@@ -77,15 +77,15 @@ fn sessions_left_after(left: u32, event: &WorldEvent) -> Option<u32>
 fn replay(
     alloc: Global,
     slots: u8,
-    numbered: bool,
+    oks: Oks,
     past: &[WorldEvent],
     session: u32,
 ) -> Result<World, AllocError>
     requires some { 1 ≤ slots }
     requires few { slots ≤ 16 }
-    ensures { IfOk result (λ w. w ≡ world_of slots numbered (till session past.now)) }
+    ensures { IfOk result (λ w. w ≡ world_of slots oks (till session past.now)) }
 {
-    let mut world = World::new(alloc, slots, numbered);
+    let mut world = World::new(alloc, slots, oks);
     let mut left = session;
     for event in past {
         let Some(rest) = sessions_left_after(left, event) else {

@@ -12,6 +12,7 @@ ghost use Rattle.printer_model.specs.declared.printer.Reason.TheVariants as reas
 ghost use Rattle.printer_model.specs.World.{is_run};
 ghost use Rattle.printer_model.specs.Printer.{IsInTurn, IsRefusal, IsSameKind, judged, plain_entry};
 ghost use Rattle.printer_model.specs.World.{Grew, IsTidy, WorldData, accepted_lines, apply, is_free, moves_down, moves_printer, moves_up, world_from, world_of};
+ghost use Rattle.printer_model.specs.declared.oks.Oks.{Oks};
 ghost use Rattle.printer_model.specs.declared.event.WorldEvent.{WorldEvent};
 ghost use Rattle.printer_model.specs.declared.event.WorldEvent.TheVariants as event;
 
@@ -32,8 +33,8 @@ pub fn world_law()
         → (apply w event).down ≡ w.down }
     ensures linked { (w : WorldData) (events : List WorldEvent) → list_all is_free events ≡ true
         → (world_from w events).linked ≡ w.linked }
-    ensures tidy { (slots : ℕ) (numbered : Bool) (past : List WorldEvent)
-        → IsTidy (world_of slots numbered past) }
+    ensures tidy { (slots : ℕ) (oks : Oks) (past : List WorldEvent)
+        → IsTidy (world_of slots oks past) }
 {}
 
 /// What the printer makes of a line at a last number, by the first rule that the line breaks.

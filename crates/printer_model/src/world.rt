@@ -7,6 +7,7 @@ ghost use Rattle.printer_model.specs.World.{new_world, can_happen, apply, IsStep
 
 use crate::event::WorldEvent;
 use crate::executed::ExecutedLine;
+use crate::oks::Oks;
 use crate::printer::{Printer, Ran, Taken};
 use crate::replies::{error_line, ok_line, resend_line, start_line};
 use crate::wire::Wire;
@@ -42,14 +43,14 @@ impl Model for World {
 
 impl World {
     /// A world with a closed link and a printer of 1 to 16 buffer slots that has run nothing.
-    pub fn new(alloc: Global, slots: u8, numbered: bool) -> Self
+    pub fn new(alloc: Global, slots: u8, oks: Oks) -> Self
         requires some { 1 ≤ slots }
         requires few { slots ≤ 16 }
-        ensures { result ≡ new_world slots numbered }
+        ensures { result ≡ new_world slots oks }
     {
         World {
             linked: false,
-            printer: Printer::new(0, slots, numbered),
+            printer: Printer::new(0, slots, oks),
             log: Vec::new(alloc),
             up: Wire::new(alloc),
             down: Wire::new(alloc),
@@ -91,6 +92,13 @@ impl World {
         self.up.len()
     }
 
+    /// How many reply lines are on the wire from the printer.
+    pub fn replies(&self) -> usize
+        ensures { result ≡ length self.now.down }
+    {
+        self.down.len()
+    }
+
     /// The line at the front of the wire from the printer.
     pub fn front_reply(&self) -> Option<ReplyLine>
         ensures { MatchOption result (self.now.down ≡ [])
@@ -119,6 +127,7 @@ impl World {
             WorldEvent::Send(line) => self.send(line),
             WorldEvent::Arrive => self.arrive(),
             WorldEvent::Lose { at } => Ok(self.lose(*at)),
+            WorldEvent::LoseReply { at } => Ok(self.lose_reply(*at)),
             WorldEvent::Garble { at, line } => Ok(self.corrupt(*at, line)),
             WorldEvent::Run => self.run(),
             WorldEvent::Restart => self.restart(),
@@ -181,6 +190,18 @@ impl World {
             return false;
         }
         self.up.remove(at as usize);
+        true
+    }
+
+    // The event LoseReply.
+    fn lose_reply(&mut self, at: u32) -> bool
+        ensures happened { result ≡ can_happen self.old (WorldEvent.LoseReply at) }
+        ensures after { self.new ≡ apply self.old (WorldEvent.LoseReply at) }
+    {
+        if !self.printer.oks().lost || at as usize >= self.down.len() {
+            return false;
+        }
+        self.down.remove(at as usize);
         true
     }
 

@@ -1,9 +1,9 @@
 //! What the calls of the link in memory do, part by part.
-ghost use Rattle.std.specs.Prelude.{◌≡◌, ◌≤◌, ◌∷◌, [], IfOk, OnOk, OnErr, ⊤};
+ghost use Rattle.std.specs.Prelude.{◌≡◌, ◌≤◌, ◌-◌, ◌∷◌, [], length, IfOk, OnOk, OnErr, ⊤};
 ghost use Rattle.octo_outside.specs.Memory.{one_more, is_listed};
 ghost use Rattle.octo_outside.specs.Recorded.{Counts};
 ghost use Rattle.printer_model.specs.World.{IsFrontReply};
-ghost use Rattle.printer_link.specs.Memory.{before_reply, with_one_call, after_fault, with_added, with_one_recv, is_due, lists_name, link_world, next_fate, opening_last, send_events, LinkMoved, LinkRan, LinkReceived};
+ghost use Rattle.printer_link.specs.Memory.{after_printer, before_reply, lost_among, with_replies, with_one_call, after_fault, with_added, with_one_recv, is_due, lists_name, link_world, next_fate, opening_last, send_events, LinkMoved, LinkRan, LinkReceived};
 ghost use Rattle.printer_link.specs.Link.{dial_events};
 ghost use Rattle.printer_model.specs.declared.event.WorldEvent.TheVariants as event;
 ghost use Rattle.printer_link.specs.declared.link.Heard.TheVariants as heard_as;
@@ -82,13 +82,37 @@ impl MemoryLink {
         self.story.send(line)
     }
 
-    // What happens before a reply is received.
-    pub(super) fn before_reply(&mut self, restarts: bool, due: bool) -> Result<(), AllocError>
+    // What the printer does before a reply is received.
+    fn before_reply(&mut self, restarts: bool, due: bool) -> Result<(), AllocError>
         ensures ok { OnOk result (self.new
             ≡ with_added self.old (before_reply restarts due (link_world self.old))) }
         ensures err { OnErr result (LinkMoved self.old self.new) }
     {
         self.story.before_reply(restarts, due)
+    }
+
+    // The listed ones of the replies from a place on are lost, and all of them count.
+    fn lose_replies(&mut self, from: usize) -> Result<(), AllocError>
+        ensures ok { let count = length (link_world self.old).down - from in OnOk result (self.new
+            ≡ with_replies count (with_added self.old
+            (lost_among self.old.lost (one_more self.old.replies) from count))) }
+        ensures err { OnErr result (LinkMoved self.old self.new) }
+    {
+        let count = self.story.world().replies().saturating_sub(from);
+        let first = self.replies.saturating_add(1);
+        self.story.lose_replies(self.lost.as_slice(), first, from)?;
+        self.replies = self.replies.saturating_add(count as u64);
+        Ok(())
+    }
+
+    // What happens before a reply is received: what the printer does, and which of its replies are lost.
+    pub(super) fn let_print(&mut self, restarts: bool, due: bool) -> Result<(), AllocError>
+        ensures ok { OnOk result (self.new ≡ after_printer restarts due self.old) }
+        ensures err { OnErr result (LinkMoved self.old self.new) }
+    {
+        let from = self.story.world().replies();
+        self.before_reply(restarts, due)?;
+        self.lose_replies(from)
     }
 
     // Takes the front of the wire from the printer, if there is one.
@@ -114,7 +138,7 @@ impl MemoryLink {
             LinkReceived restarts due into.new.items got self.old self.new) }
         ensures err { OnErr result (LinkMoved self.old self.new) }
     {
-        self.before_reply(restarts, due)?;
+        self.let_print(restarts, due)?;
         self.take_front(into)
     }
 }

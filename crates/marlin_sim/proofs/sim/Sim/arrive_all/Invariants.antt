@@ -7,6 +7,7 @@ invariant-loop l = record {
   arrives : Arrives l.initial.self l.self;
   kept : Keeps l.initial.self l.self;
   work : work l.self ≤ work l.initial.self;
+  text : l.self.text ≡ l.initial.self.text;
   slots : l.self.printer.slots ≡ l.initial.self.printer.slots;
 }
 

@@ -1,8 +1,11 @@
 //! A stream over a serial device.
 ghost use Rattle.std.specs.Prelude.{◌≡◌};
+ghost use Rattle.std.specs.IoError.{raw_os_error};
+ghost use Rattle.printer_link_ports.specs.Ports.{not_opened};
 
-use crate::address::Device;
-use crate::poll::may_write;
+use crate::room::wait_for_room;
+use printer_link_cause::Cause;
+use printer_link_socket::Device;
 use std::alloc::Global;
 use std::fs::{File, OpenOptions};
 use std::io;
@@ -10,39 +13,25 @@ use std::io::{ErrorKind, IsTerminal, Read, Write};
 use std::os::fd::{AsRawFd, RawFd};
 use std::process::{Command, Processes, Stdio};
 use std::rt::Files;
-use thiserror::Error;
 
-// For how many milliseconds a write waits for room.
-const WAIT: i32 = 10;
-
-/// Why a serial device can't be used.
-#[derive(Debug, Error, Drop)]
-pub enum TtyFault {
-    /// The file can't be opened.
-    #[error("the device can't be opened: {0}")]
-    Open(io::Error),
-    /// The file is no terminal device.
-    #[error("it is no serial device")]
-    NoTerminal,
-    /// Another program has locked it.
-    #[error("another program uses the device")]
-    Taken,
-    /// `stty` could not be run.
-    #[error("the program stty (of coreutils) can't be run")]
-    NoStty,
-    /// `stty` refused the line's settings.
-    #[error("stty refused the line's settings, as a speed that it doesn't know")]
-    Refused,
-    /// The device can't be set non-blocking.
-    #[error("the device can't be set non-blocking")]
-    Blocking,
-}
+// ENODEV.
+const NO_DEVICE: i32 = 19;
 
 /// A serial device that is open, locked and set. A read returns what has come, and a write that finds no room waits for
 /// about 10 milliseconds.
 #[derive(Drop)]
 pub struct TtyStream<F: Drop> {
     file: F,
+}
+
+// The cause that a device's file can't be opened.
+fn not_opened(error: &io::Error) -> Cause
+    ensures { result ≡ not_opened (raw_os_error error.now) }
+{
+    match error.raw_os_error() {
+        Some(number) => Cause::NoDevice(number.unsigned_abs()),
+        None => Cause::Unnumbered,
+    }
 }
 
 // Sets the line: raw, 8 data bits, no parity, one stop bit, no echo, no flow control, no hang-up at a close, and this speed if one is given.
@@ -62,33 +51,33 @@ fn set_line<R: Processes>(rt: &R, alloc: Global, device: &Device<'_>) -> io::Res
 }
 
 impl TtyStream<File> {
-    /// Opens a device: locks its file, so that no second host uses it, and then sets the line.
+    /// Opens a device: locks its file, so that no second host uses it, and then sets the line. Or it says why the device can't be used.
     pub fn open<R: Files<File = File> + Processes>(
         rt: &R,
         alloc: Global,
         device: &Device<'_>,
-    ) -> Result<Self, TtyFault> {
+    ) -> Result<Self, Cause> {
         let opened = OpenOptions::new()
             .read(true)
             .write(true)
             .open(rt, device.path);
         let file = match opened {
             Ok(file) => file,
-            Err(error) => return Err(TtyFault::Open(error)),
+            Err(error) => return Err(not_opened(&error)),
         };
         if !file.is_terminal() {
-            return Err(TtyFault::NoTerminal);
+            return Err(Cause::NoTerminal);
         }
         if file.try_lock().is_err() {
-            return Err(TtyFault::Taken);
+            return Err(Cause::Taken);
         }
         match set_line(rt, alloc, device) {
             Ok(true) => {}
-            Ok(false) => return Err(TtyFault::Refused),
-            Err(_) => return Err(TtyFault::NoStty),
+            Ok(false) => return Err(Cause::Refused),
+            Err(_) => return Err(Cause::NoStty),
         }
         if os::set_nonblocking(file.as_raw_fd(), true) != 0 {
-            return Err(TtyFault::Blocking);
+            return Err(Cause::Blocking);
         }
         Ok(TtyStream { file })
     }
@@ -97,8 +86,13 @@ impl TtyStream<File> {
 impl<F: Read + Drop> Read for TtyStream<F> {
     ghost remaining = { λ t. F.remaining t.file };
 
+    // A device that is gone has no more bytes.
+    #[tactic(auto, using(printer_link_socket::proofs::Heard::consumes_keeps))]
     fn read(&mut self, into: &mut [u8]) -> io::Result<usize> {
-        self.file.read(into)
+        match self.file.read(into) {
+            Ok(0) => Err(io::Error::from_raw_os_error(NO_DEVICE)),
+            read => read,
+        }
     }
 }
 
@@ -110,7 +104,7 @@ impl<F: Write + AsRawFd + Drop> Write for TtyStream<F> {
         let written = self.file.write(bytes);
         if let Err(error) = &written {
             if matches!(error.kind(), ErrorKind::WouldBlock) {
-                may_write(&self.file, WAIT);
+                wait_for_room(&self.file);
             }
         }
         written
