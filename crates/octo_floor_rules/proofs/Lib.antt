@@ -1,0 +1,5 @@
+pub mod Counting
+pub mod Histories
+pub mod Numbers
+pub mod Passes
+pub mod Starts
