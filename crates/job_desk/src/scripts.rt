@@ -1,13 +1,14 @@
 //! The scripts that run around connections and prints, as OctoPrint's GCODE scripts do.
-ghost use Rattle.std.specs.Prelude.{◌≡◌, ◌<◌, ◌≤◌, ◌++◌, ◌↔◌, [], ◌∷◌, length, map, slice_get, Some, None, IfSome, OnOk, OnErr};
+ghost use Rattle.std.specs.Prelude.{◌≡◌, ◌<◌, ◌≤◌, ◌++◌, ◌↔◌, [], ◌∷◌, length, map, slice_get, Some, None, IfSome, IfOk, OnOk, OnErr};
 ghost use Rattle.std.specs.Option.{option_map, option_copied};
 ghost use Rattle.byte_text.specs.Sendable.{IsSendable};
 ghost use Rattle.job_desk.specs.Data.{texts_at};
 ghost use Rattle.job_desk.specs.Scripts.{most_script_lines, no_scripts, with_text};
+ghost use Rattle.job_desk.specs.Views.{bytes_of};
 
 use crate::Point;
 use byte_text::{Text, bounded_text};
-use std::alloc::Global;
+use std::alloc::{AllocError, Global};
 use std::marker::Model;
 use thiserror::Error;
 
@@ -23,6 +24,17 @@ pub enum AddFault {
     /// Memory ran out.
     #[error("out of memory")]
     NoMemory,
+}
+
+// A copy of texts.
+fn copy_texts(alloc: Global, texts: &[Text]) -> Result<Vec<Text>, AllocError>
+    ensures { IfOk result (λ copy. bytes_of copy.items ≡ bytes_of texts.now) }
+{
+    let mut copies = Vec::new(alloc);
+    for text in texts {
+        copies.push(bounded_text(text.as_slice()))?;
+    }
+    Ok(copies)
 }
 
 // The texts of one script.
@@ -65,6 +77,14 @@ impl Script {
             Ok(()) => Ok(()),
             Err(_) => Err(AddFault::NoMemory),
         }
+    }
+
+    // A copy of the script. Fails only if out of memory.
+    fn copy(&self, alloc: Global) -> Result<Script, AllocError>
+        ensures { IfOk result (λ copy. copy ≡ self.now) }
+    {
+        let texts = copy_texts(alloc, &self.texts)?;
+        Ok(Script { texts })
     }
 
     fn get(&self, i: usize) -> Option<&Text>
@@ -176,5 +196,19 @@ impl Scripts {
         ensures few { result ≤ most_script_lines }
     {
         self.at(point).len()
+    }
+    /// A copy of the scripts, for a further printer. Fails only if out of memory.
+    pub fn copy(&self, alloc: Global) -> Result<Scripts, AllocError>
+        ensures { IfOk result (λ copy. copy ≡ self.now) }
+    {
+        Ok(Scripts {
+            connected: self.connected.copy(alloc)?,
+            disconnect: self.disconnect.copy(alloc)?,
+            started: self.started.copy(alloc)?,
+            paused: self.paused.copy(alloc)?,
+            resumed: self.resumed.copy(alloc)?,
+            cancelled: self.cancelled.copy(alloc)?,
+            done: self.done.copy(alloc)?,
+        })
     }
 }

@@ -6,7 +6,7 @@ use Rattle.std.proofs.lemmas.List.Folds.{list_any-append}
 use Rattle.printer_model.specs.World.{is_free, is_send}
 use Rattle.printer_model.specs.Executed.{opens, till}
 use Rattle.printer_model.specs.declared.event.WorldEvent.{WorldEvent}
-use Rattle.printer_model.specs.declared.event.WorldEvent.TheVariants.{Opened, Send, Arrive, Lose, Garble, Run, Restart, Chatter, Recv, Closed}
+use Rattle.printer_model.specs.declared.event.WorldEvent.TheVariants.{Opened, Send, Arrive, Lose, LoseReply, Garble, Run, Restart, Chatter, Recv, Closed}
 use Rattle.printer_model.proofs.Sessions.{executed-append, till-append, till-all, pred_below}
 use Rattle.printer_link.specs.Link.{LinkKind}
 use Rattle.octo_session.specs.Tied.{IsTied}
@@ -17,7 +17,7 @@ use Rattle.std.proofs.lemmas.Bool.{and_parts}
 pub tied_before : (kind : LinkKind) (issued : List (List ℕ)) (acked : ℕ) (past added : List WorldEvent) (s : ℕ) → s < opens past →
     IsTied kind issued acked past s → IsTied kind issued acked (past ++ added) s
 tied_before kind issued acked past added s over t =
-    tied_as kind issued acked s past (past ++ added) (executed-append kind.slots kind.numbered past added s over)
+    tied_as kind issued acked s past (past ++ added) (executed-append kind.slots kind.oks past added s over)
     (till-append s past added over) (till-append (pred s) past added (pred_below s (opens past) over)) t
 
 -- events that open no session, and then others
@@ -27,6 +27,7 @@ till-none (Opened last ∷ first) more none = absurd (omega (arith, none))
 till-none (Send line ∷ first) more none = ap (λ (es : List WorldEvent). Send line ∷ es) (till-none first more none)
 till-none (Arrive ∷ first) more none = ap (λ (es : List WorldEvent). Arrive ∷ es) (till-none first more none)
 till-none (Lose at ∷ first) more none = ap (λ (es : List WorldEvent). Lose at ∷ es) (till-none first more none)
+till-none (LoseReply at ∷ first) more none = ap (λ (es : List WorldEvent). LoseReply at ∷ es) (till-none first more none)
 till-none (Garble at line ∷ first) more none = ap (λ (es : List WorldEvent). Garble at line ∷ es) (till-none first more none)
 till-none (Run ∷ first) more none = ap (λ (es : List WorldEvent). Run ∷ es) (till-none first more none)
 till-none (Restart ∷ first) more none = ap (λ (es : List WorldEvent). Restart ∷ es) (till-none first more none)

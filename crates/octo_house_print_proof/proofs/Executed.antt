@@ -53,10 +53,10 @@ pub short_first : (first later : History) → IsShort (first ++ later) → IsSho
 short_first first later short one two is = short one (two ++ later) (ap (λ (x : History). x ++ later) is ∙ append_assoc one two later)
 
 -- the file commands in the first lines of the session that a print lives in
-jobs_home : (p home : ℕ) (h : History) → LivesIn p h home → job_part p (issued_of home h) ≡ job_part p (trace p h)
+pub jobs_home : (p home : ℕ) (h : History) → LivesIn p h home → job_part p (issued_of home h) ≡ job_part p (trace p h)
 jobs_home p home h l = sym (jobs_own p (issued_of home h)) ∙ ap (λ (x : List Line). job_part p x) (sym l.all)
 
-home_of : (p : ℕ) (h : History) (fates : List Fate) → Lives p h fates → (home : ℕ) × LivesIn p h home
+pub home_of : (p : ℕ) (h : History) (fates : List Fate) → Lives p h fates → (home : ℕ) × LivesIn p h home
 home_of p h fates (inl u) = (sessions h, u.lives)
 home_of p h fates (inr o) = (o.home, o.lives)
 
@@ -106,7 +106,7 @@ in_order kind front s h past run first later is p some commands began =
     record { home = at.0; lives = at.1; count = part.count; executed = part.are }
 
 -- a print that is done has ended so
-done_ended : (p : ℕ) (h : History) (fates : List Fate) → fates ≡ Finished ∷ [] → Lives p h fates →
+pub done_ended : (p : ℕ) (h : History) (fates : List Fate) → fates ≡ Finished ∷ [] → Lives p h fates →
     (home : ℕ) × (home ≤ sessions h) × LivesIn p h home × (print_lines p (drop (acked_in home h) (issued_of home h)) ≡ [])
 done_ended p h fates is (inl u) = absurd (let no : Finished ∷ [] ≡ [] = sym is ∙ u.no_fate in cc no)
 done_ended p h fates is (inr o) =
@@ -114,7 +114,7 @@ done_ended p h fates is (inr o) =
     (o.home, o.within, o.lives, subst (λ (f : Fate). LeavesSo p f o.home h) same o.leaves)
 
 -- its lines were executed: they are among those that are acknowledged
-executed_all : (kind : LinkKind) (front : List WorldEvent) (p home : ℕ) (h : History) (past : List WorldEvent) → Tied kind front h past → home ≤ sessions h →
+pub executed_all : (kind : LinkKind) (front : List WorldEvent) (p home : ℕ) (h : History) (past : List WorldEvent) → Tied kind front h past → home ≤ sessions h →
     print_lines p (drop (acked_in home h) (issued_of home h)) ≡ [] → print_lines p (drop (executed_in kind front past home) (issued_of home h)) ≡ []
 executed_all kind front p zero h past t within none =
     none_past p (executed_in kind front past 0) (issued_of 0 h) (omega (arith, t.few 0 (omega arith), issued_length 0 h))

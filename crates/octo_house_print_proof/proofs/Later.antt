@@ -7,7 +7,7 @@ use Rattle.printer_model.specs.World.{WorldData, apply, world_from}
 use Rattle.printer_model.specs.Executed.{opens, till}
 use Rattle.printer_model.specs.Exchanged.{events_of_session, received_by, received_from, replies_from}
 use Rattle.printer_model.specs.declared.event.WorldEvent.{WorldEvent}
-use Rattle.printer_model.specs.declared.event.WorldEvent.TheVariants.{Opened, Send, Arrive, Lose, Garble, Run, Restart, Chatter, Recv, Closed}
+use Rattle.printer_model.specs.declared.event.WorldEvent.TheVariants.{Opened, Send, Arrive, Lose, LoseReply, Garble, Run, Restart, Chatter, Recv, Closed}
 use Rattle.printer_model.proofs.Sessions.{till-append, till-all, till-IsFront}
 use Rattle.printer_link.specs.Link.{LinkKind, world_in}
 use Rattle.send_window.specs.Counting.{acked_of}
@@ -28,6 +28,7 @@ till_past (Opened last ∷ past) more = ap (λ (es : List WorldEvent). Opened la
 till_past (Send line ∷ past) more = ap (λ (es : List WorldEvent). Send line ∷ es) (till_past past more)
 till_past (Arrive ∷ past) more = ap (λ (es : List WorldEvent). Arrive ∷ es) (till_past past more)
 till_past (Lose at ∷ past) more = ap (λ (es : List WorldEvent). Lose at ∷ es) (till_past past more)
+till_past (LoseReply at ∷ past) more = ap (λ (es : List WorldEvent). LoseReply at ∷ es) (till_past past more)
 till_past (Garble at line ∷ past) more = ap (λ (es : List WorldEvent). Garble at line ∷ es) (till_past past more)
 till_past (Run ∷ past) more = ap (λ (es : List WorldEvent). Run ∷ es) (till_past past more)
 till_past (Restart ∷ past) more = ap (λ (es : List WorldEvent). Restart ∷ es) (till_past past more)

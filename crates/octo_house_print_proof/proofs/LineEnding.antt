@@ -26,7 +26,7 @@ use Rattle.octo_house_print_proof.proofs.Standing.{longer_so_far, entry_tied, ea
 -- a link that is hung up is down
 hung_down : (kind : LinkKind) (past added : List WorldEvent) → IsHangUp true (world_in kind past) added → (world_in kind (past ++ added)).linked ≡ false
 hung_down kind past added hung =
-    ap (λ (w : WorldData). w.linked) (world_of-append kind.slots kind.numbered past added)
+    ap (λ (w : WorldData). w.linked) (world_of-append kind.slots kind.oks past added)
     ∙ ap (λ (es : List WorldEvent). (world_from (world_in kind past) es).linked) hung.0
     ∙ closed (world_in kind past) hung.1
   where
@@ -58,7 +58,7 @@ module _ (kind : LinkKind) (front : List WorldEvent) where
   calls_step (entry.Close ∷ added) h past x y calls sender up i = absurd calls
 
   -- a session without a link, at the beginning
-  pub begin_step : (past : List WorldEvent) (x : SessionData) → front ≡ past → IsUnmade x → AreInStep kind front [] past x
+  pub begin_step : (past : List WorldEvent) (x : SessionData) → front ≡ past → IsUnmade kind x → AreInStep kind front [] past x
   begin_step past x is u = record {
     counted = omega (arith, ap opens is);
     former = λ s some below. absurd (omega (arith, some, below));

@@ -7,6 +7,8 @@ use Rattle.job_desk.specs.declared.link_fact.LinkFact.{LinkFact}
 use Rattle.job_desk.specs.declared.link_fact.LinkFact.TheVariants as fact
 use Rattle.printer_model.specs.declared.event.WorldEvent.{WorldEvent}
 use Rattle.printer_link.specs.Link.{LinkKind, Grows, IsHangUp}
+use Rattle.printer_link.specs.Suits.{SuitsAs}
+use Rattle.send_window.specs.Data.{IsSound}
 use Rattle.octo_session.specs.Data.{SessionData}
 use Rattle.octo_session.specs.Turn.{IsTurn, IsNoteOf, texts_in}
 use Rattle.octo_session.specs.declared.found.Turned.{Turned}
@@ -17,23 +19,23 @@ use Rattle.octo_house_rules.specs.Legal.{up_after}
 use Rattle.octo_session_line_proof.proofs.Recorded.{IsKept, turned_by}
 use Rattle.octo_house_rules.specs.Sessions.{end_of}
 use Rattle.octo_house_rules.specs.Tied.{AreTied, TiesLines}
-use Rattle.octo_house_print_proof.specs.InStep.{AreCalls, IsUnmade, AreInStep, InStep}
+use Rattle.octo_house_print_proof.specs.InStep.{AreCalls, AreInStep, InStep}
 use Rattle.octo_house_rules.specs.Recorded.{Grown}
 use Rattle.octo_house_print_proof.proofs.LineEnding.{begin_step, calls_step, end_step}
 use Rattle.octo_house_print_proof.proofs.Standing.{still_step}
 use Rattle.octo_house_print_proof.proofs.Noting.{noted_step, silent_step}
 
 -- a host that begins
-pub begin_in_step : (kind : LinkKind) (before : Option History) (front : Option (List WorldEvent)) (x : SessionData) → IsUnmade x
-    → InStep kind before before front front x
-begin_in_step kind before front x u all now events there = record {
+pub begin_in_step : (kind : LinkKind) (before : Option History) (front : Option (List WorldEvent)) (x : SessionData) → x.up ≡ false
+    → IsSound x.sender → SuitsAs false front kind.oks → InStep kind before before front front x
+begin_in_step kind before front x down sound suits all now events there = record {
   old = all;
   added = [];
   was = now;
   grew = sym (append-nil all);
   old_events = events;
   was_link = there;
-  so = begin_step kind events events x refl u;
+  so = begin_step kind events events x refl (record { down = down; sound = sound; suits = suits events there });
 }
 
 -- entries more

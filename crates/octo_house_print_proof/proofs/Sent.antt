@@ -18,7 +18,7 @@ use Rattle.octo_house_rules.specs.Legal.{Standing}
 use Rattle.octo_house_rules.specs.Scripts.{run_in}
 use Rattle.octo_session.specs.Sends.{IsLineAbove}
 use Rattle.octo_house_rules.specs.Sessions.{sessions, session_texts, acked_in, is_open}
-use Rattle.octo_house_rules.specs.Timeline.{history_of, events_of, past_after}
+use Rattle.octo_house_rules.specs.Timeline.{Timeline, history_of, events_of, past_after}
 use Rattle.octo_house_print_proof.specs.Tied.{IsAbove, AreAbove}
 use Rattle.octo_house_rules.specs.Tied.{Tied, WasTied}
 use Rattle.octo_house_print_proof.proofs.Grown.{shut_after}
@@ -29,7 +29,7 @@ use Rattle.octo_house_rules.specs.PrintLaws.{IsLineOfOther, IsSentOther, AreSent
 use Rattle.octo_house_print_proof.specs.Prints.{IsEnded, Lives}
 use Rattle.octo_house_rules.specs.Lives.{LivesIn, LeavesSo}
 use Rattle.octo_house_print_proof.proofs.Entries.{Place, earlier, here, later, place}
-use Rattle.octo_house_print_proof.proofs.Executed.{IsThen, run_then}
+use Rattle.octo_house_print_proof.proofs.Executed.{run_then}
 use Rattle.octo_house_print_proof.proofs.Histories.{lives_in, stays_in}
 use Rattle.octo_house_print_proof.proofs.Lists.{none_dropped, none_past}
 use Rattle.byte_text.proofs.ListLaws.{head_same}
@@ -103,12 +103,12 @@ events_unsent p lines (event ∷ events) none =
     (event_unsent p lines event parts.0, events_unsent p lines events parts.1)
 
 -- how far a print's lines go in the session that it lives in
-record IsPast (p : ℕ) (first : History) (home : ℕ) : Type 0 where
-  reach : ℕ
-  none : print_lines p (drop reach (issued_of home first)) ≡ []
-  how : ((reach ≡ acked_in home first)) ⊎ ((home < sessions first) ⊎ (is_open first ≡ false))
+pub record IsPast (p : ℕ) (first : History) (home : ℕ) : Type 0 where
+  pub reach : ℕ
+  pub none : print_lines p (drop reach (issued_of home first)) ≡ []
+  pub how : ((reach ≡ acked_in home first)) ⊎ ((home < sessions first) ⊎ (is_open first ≡ false))
 
-past_of : (p : ℕ) (first : History) (f : Fate) (home : ℕ) → LeavesSo p f home first → IsPast p first home
+pub past_of : (p : ℕ) (first : History) (f : Fate) (home : ℕ) → LeavesSo p f home first → IsPast p first home
 past_of p first Finished home l = record { reach = acked_in home first; none = l; how = inl refl }
 past_of p first Stopped home l = record { reach = acked_in home first; none = l; how = inl refl }
 past_of p first Left home l = record { reach = acked_in home first; none = l; how = inl refl }
@@ -117,14 +117,79 @@ past_of p first Unplugged home l =
 past_of p first Broken home l =
     record { reach = length (issued_of home first); none = none_past p (length (issued_of home first)) (issued_of home first) (omega arith); how = inr l }
 
-ended_of : (p : ℕ) (h : History) (fates : List Fate) (f : Fate) → fates ≡ f ∷ [] → Lives p h fates → IsEnded p h fates
+pub ended_of : (p : ℕ) (h : History) (fates : List Fate) (f : Fate) → fates ≡ f ∷ [] → Lives p h fates → IsEnded p h fates
 ended_of p h fates f is (inl u) = absurd (let no : f ∷ [] ≡ [] = sym is ∙ u.no_fate in cc no)
 ended_of p h fates f is (inr o) = o
+
+-- what was sent since a timeline had come so far
+module _ (kind : LinkKind) (front : List WorldEvent) (p : ℕ) (first more : Timeline) (was : WasTied kind front first (events_of more))
+    (tied : Tied kind front (history_of first ++ history_of more) (past_after front first ++ events_of more)) where
+  abbrev now : History
+  now = history_of first
+
+  abbrev whole : History
+  whole = now ++ history_of more
+
+  abbrev so_far : List WorldEvent
+  so_far = past_after front first
+
+  abbrev since : List WorldEvent
+  since = events_of more
+
+  -- a session that isn't open
+  shut : (n : ℕ) → is_open now ≡ false → AreSentOther p (issued_of n whole) (till 0 since)
+  shut n closed = events_unsent p (issued_of n whole) (till 0 since) (was.unsent closed)
+
+  -- the last session, if none of its lines after those acknowledged is the print's
+  last : (n : ℕ) → sessions now ≡ n → print_lines p (drop (acked_in n now) (issued_of n whole)) ≡ [] → AreSentOther p (issued_of n whole) (till 0 since)
+  last zero is none = shut zero (shut_after now is)
+  last (suc n) is none =
+      let above : AreAbove (session_texts (sessions now) whole) (acked_in (sessions now) now) (till 0 since) =
+      later_above kind front now (history_of more) so_far since (omega (arith, is)) tied was.tied
+      in
+      let there : AreAbove (texts_in (issued_of (suc n) whole)) (acked_in (suc n) now) (till 0 since) =
+      subst (λ (k : ℕ). AreAbove (session_texts k whole) (acked_in k now) (till 0 since)) is above
+      in
+      events_other p (acked_in (suc n) now) (issued_of (suc n) whole) none (till 0 since) there
+
+  by : (home : ℕ) → Place home (sessions now) → home ≤ sessions now → LivesIn p whole home → (so : IsPast p now home) →
+      print_lines p (drop so.reach (issued_of home whole)) ≡ [] → AreSentOther p (issued_of (sessions now) whole) (till 0 since)
+  by home (earlier below) within l so none =
+      last (sessions now) refl
+      (none_dropped p (acked_in (sessions now) now) (issued_of (sessions now) whole) (l.alone (sessions now) (λ same. absurd (omega (arith, same, below)))))
+  by home (later above) within l so none = absurd (omega (arith, above, within))
+  by home (here same) within l so none = subst (λ (n : ℕ). AreSentOther p (issued_of n whole) (till 0 since)) same (how so.how)
+    where
+      how : ((so.reach ≡ acked_in home now)) ⊎ ((home < sessions now) ⊎ (is_open now ≡ false)) → AreSentOther p (issued_of home whole) (till 0 since)
+      how (inl acked) = last home (sym same) (subst (λ (b : ℕ). print_lines p (drop b (issued_of home whole)) ≡ []) acked none)
+      how (inr (inl below)) = absurd (omega (arith, below, same))
+      how (inr (inr closed)) = shut home closed
+
+  -- a session of which no line is the print's
+  later_session : (n : ℕ) → 1 ≤ n → n ≤ sessions whole → print_lines p (issued_of n whole) ≡ [] →
+      AreSentOther p (issued_of n whole) (events_of_session (opens front + n) (so_far ++ since))
+  later_session n some most none =
+      events_other p 0 (issued_of n whole) none (events_of_session (opens front + n) (so_far ++ since))
+      (issued_above kind (session_texts n whole) (acked_in n whole) (so_far ++ since) (opens front + n) (tied.each n some most))
+
+  -- none of a print's lines, if it had ended then, and none was issued after
+  pub ended_unsent : (fate : Fate) (fates : List Fate) → fates ≡ fate ∷ [] → (o : IsEnded p now fates) → (so : IsPast p now o.home) → LivesIn p whole o.home →
+      print_lines p (drop so.reach (issued_of o.home whole)) ≡ [] → IsSentNoMore kind front p fate now whole so_far since
+  ended_unsent fate fates ends o so stays none = record {
+    home = o.home;
+    within = o.within;
+    lives = stays;
+    leaves = subst (λ (f : Fate). LeavesSo p f o.home now) (head_same o.fate fate (sym o.is ∙ ends)) o.leaves;
+    down = λ some closed. was.tied.open_as (omega (arith, some, o.within)) ∙ closed;
+    none = by o.home (place o.home (sessions now)) o.within stays so none;
+    never = λ n over most. later_session n (omega (arith, over)) most (stays.alone n (λ same. absurd (omega (arith, over, o.within, same))));
+  }
 
 pub sent_no_more : (kind : LinkKind) (front : List WorldEvent) (s : Standing) (h : History) (past : List WorldEvent) (run : IsRun kind front s h past) →
     EachEndedIsSentNoMore kind front s run.tied.timeline
 sent_no_more kind front s h past run first more is p some fate ends =
     let t = run_then kind front s h past run first more is in
+    let now : History = history_of first in
     let scripts : ScriptTexts = s.known.desk.scripts in
     let o : IsEnded p now (of_print p (run_in now s).ends) =
     ended_of p now _ fate ends (lives_in scripts s.known.desk.limits s.known.desk.poll_ms p some s run.begins.new now t.legal t.short)
@@ -133,67 +198,8 @@ sent_no_more kind front s h past run first more is p some fate ends =
     let stays = stays_in scripts s.known.desk.limits s.known.desk.poll_ms p some s run.begins.new now (history_of more) t.legal_all t.short_all
     o.fate o.home so.reach o.within o.is o.lives so.none
     in
-    subst (λ (x : History). IsSentNoMore kind front p fate now x so_far since) (sym (ap history_of is ∙ history_of-append first more))
-    (record {
-      home = o.home;
-      within = o.within;
-      lives = stays.0;
-      leaves = subst (λ (f : Fate). LeavesSo p f o.home now) (head_same o.fate fate (sym o.is ∙ ends)) o.leaves;
-      down = λ some closed. t.was.tied.open_as (omega (arith, some, o.within)) ∙ closed;
-      none = by t o.home (place o.home (sessions now)) o.within stays.0 so stays.1;
-      never = λ n over most. later_session t.tied_all n (omega (arith, over)) most (stays.0.alone n (λ same. absurd (omega (arith, over, o.within, same))));
-    })
-  where
-    now : History
-    now = history_of first
-
-    whole : History
-    whole = now ++ history_of more
-
-    so_far : List WorldEvent
-    so_far = past_after front first
-
-    since : List WorldEvent
-    since = events_of more
-
-    -- a session that isn't open
-    shut : WasTied kind front first since → (n : ℕ) → is_open now ≡ false → AreSentOther p (issued_of n whole) (till 0 since)
-    shut w n closed = events_unsent p (issued_of n whole) (till 0 since) (w.unsent closed)
-
-    -- the last session, if none of its lines after those acknowledged is the print's
-    last : IsThen kind front s first more → (n : ℕ) → sessions now ≡ n → print_lines p (drop (acked_in n now) (issued_of n whole)) ≡ [] →
-        AreSentOther p (issued_of n whole) (till 0 since)
-    last t zero is none = shut t.was zero (shut_after now is)
-    last t (suc n) is none =
-        let above : AreAbove (session_texts (sessions now) whole) (acked_in (sessions now) now) (till 0 since) =
-        later_above kind front now (history_of more) so_far since (omega (arith, is)) t.tied_all t.was.tied
-        in
-        let there : AreAbove (texts_in (issued_of (suc n) whole)) (acked_in (suc n) now) (till 0 since) =
-        subst (λ (k : ℕ). AreAbove (session_texts k whole) (acked_in k now) (till 0 since)) is above
-        in
-        events_other p (acked_in (suc n) now) (issued_of (suc n) whole) none (till 0 since) there
-
-    by : IsThen kind front s first more → (home : ℕ) → Place home (sessions now) → home ≤ sessions now → LivesIn p whole home →
-        (so : IsPast p now home) → print_lines p (drop so.reach (issued_of home whole)) ≡ [] → AreSentOther p (issued_of (sessions now) whole) (till 0 since)
-    by t home (earlier below) within l so none =
-        last t (sessions now) refl
-        (none_dropped p (acked_in (sessions now) now) (issued_of (sessions now) whole)
-        (l.alone (sessions now) (λ same. absurd (omega (arith, same, below)))))
-    by t home (later above) within l so none = absurd (omega (arith, above, within))
-    by t home (here same) within l so none = subst (λ (n : ℕ). AreSentOther p (issued_of n whole) (till 0 since)) same (how so.how)
-      where
-        how : ((so.reach ≡ acked_in home now)) ⊎ ((home < sessions now) ⊎ (is_open now ≡ false)) → AreSentOther p (issued_of home whole) (till 0 since)
-        how (inl acked) =
-            last t home (sym same) (subst (λ (b : ℕ). print_lines p (drop b (issued_of home whole)) ≡ []) acked none)
-        how (inr (inl below)) = absurd (omega (arith, below, same))
-        how (inr (inr closed)) = shut t.was home closed
-
-    -- a session of which no line is the print's
-    later_session : Tied kind front whole (so_far ++ since) → (n : ℕ) → 1 ≤ n → n ≤ sessions whole → print_lines p (issued_of n whole) ≡ [] →
-        AreSentOther p (issued_of n whole) (events_of_session (opens front + n) (so_far ++ since))
-    later_session tied n some most none =
-        events_other p 0 (issued_of n whole) none (events_of_session (opens front + n) (so_far ++ since))
-        (issued_above kind (session_texts n whole) (acked_in n whole) (so_far ++ since) (opens front + n) (tied.each n some most))
+    subst (λ (x : History). IsSentNoMore kind front p fate now x (past_after front first) (events_of more)) (sym (ap history_of is ∙ history_of-append first more))
+    (ended_unsent kind front p first more t.was t.tied_all fate _ ends o so stays.0 stays.1)
 
 pub true_end : (kind : LinkKind) (front : List WorldEvent) (s : Standing) (h : History) (past : List WorldEvent) (run : IsRun kind front s h past) →
     EachEndIsTrue kind front run.tied.timeline

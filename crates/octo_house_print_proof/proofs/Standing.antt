@@ -198,7 +198,7 @@ pub same_current : (kind : LinkKind) (n : ℕ) (texts : List (List ℕ)) (acked 
     → y.up ≡ x.up →
     IsCurrent kind n texts acked past x → IsCurrent kind n texts acked past y
 same_current kind zero texts acked past x y sender up u =
-    record { down = up ∙ u.down; sound = subst (λ (s : SenderData). IsSound s) (sym sender) u.sound }
+    record { down = up ∙ u.down; sound = subst (λ (s : SenderData). IsSound s) (sym sender) u.sound; suits = u.suits }
 same_current kind (suc n) texts acked past x y sender up c =
     (same_opened kind texts x y past sender up c.0, ap (λ (s : SenderData). s.acked) sender ∙ c.1)
 

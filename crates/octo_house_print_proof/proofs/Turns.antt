@@ -10,6 +10,7 @@ use Rattle.printer_model.specs.declared.event.WorldEvent.TheVariants.{Opened, Cl
 use Rattle.printer_model.proofs.Sessions.{opens-append, till-all}
 use Rattle.printer_model.proofs.Starts.{opens-free, runs-free}
 use Rattle.printer_link.specs.Link.{LinkKind, IsDial, world_in}
+use Rattle.printer_link.specs.Suits.{Suits}
 use Rattle.send_window.specs.Data.{SenderData, IsSound, most_lines}
 use Rattle.octo_session.specs.Data.{SessionData, doing}
 use Rattle.octo_session.specs.Found.{Got, unasked, may_issue, can_find}
@@ -70,13 +71,14 @@ module _ (moment : ℕ) (kind : LinkKind) (old new : SessionData) (got : Got) (f
 
   -- no link was made yet, nor is one made
   unmade_stays : (past added : List WorldEvent) → (found ≡ fact.Opened → ⊥) → IsTurned moment kind old new got found issued (world_in kind past) added →
-      IsUnmade old → IsUnmade new
+      IsUnmade kind old → IsUnmade kind new
   unmade_stays past added other t u =
       let idle : doing old ≡ UsingLink → ⊥ = not_talking old u.down in
       let same : new.sender ≡ old.sender = t.sender ∙ idle_steps moment (doing old) old.up got found issued t.count old.sender idle other in
       record {
         down = t.up ∙ down_after (doing old) found old.up t.can idle other u.down;
         sound = subst (λ (s : SenderData). IsSound s) (sym same) u.sound;
+        suits = u.suits;
       }
 
   -- a turn that makes no link
@@ -120,7 +122,8 @@ module _ (moment : ℕ) (kind : LinkKind) (old new : SessionData) (got : Got) (f
   turn_opens front past added n texts acked last_acked is t same l =
       let dial : IsDial (world_in kind past) added = dial_of moment kind old new got found issued past added is t in
       let made : IsMade kind [] new past added =
-      made_now moment kind old new got found issued past added is (sound_at n (texts n) (acked n) past old l.current) (dials is t) t in
+      made_now moment kind old new got found issued past added is (sound_at n (texts n) (acked n) past old l.current)
+      (suits_at n (texts n) (acked n) past old l.current) (dials is t) t in
       record {
         counted = omega (arith, opens-append past added, l.counted, made.once);
         former = λ s some below. former_by front past added n texts acked dial l s some below;
@@ -134,6 +137,10 @@ module _ (moment : ℕ) (kind : LinkKind) (old new : SessionData) (got : Got) (f
       sound_at : (n : ℕ) (texts : List (List ℕ)) (acked : ℕ) (past : List WorldEvent) (x : SessionData) → IsCurrent kind n texts acked past x → IsSound x.sender
       sound_at zero texts acked past x u = u.sound
       sound_at (suc n) texts acked past x c = c.0.traced.meets.numbers.sound
+
+      suits_at : (n : ℕ) (texts : List (List ℕ)) (acked : ℕ) (past : List WorldEvent) (x : SessionData) → IsCurrent kind n texts acked past x → Suits false kind.oks
+      suits_at zero texts acked past x u = u.suits
+      suits_at (suc n) texts acked past x c = c.0.suits
 
       -- the last one with what ran in the dial
       ended_by : (front past added : List WorldEvent) (n : ℕ) (texts : List (List ℕ)) (acked : ℕ) → IsDial (world_in kind past) added →

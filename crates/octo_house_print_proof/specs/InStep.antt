@@ -3,6 +3,7 @@ use Rattle.std.specs.Prelude.{◌≡◌, ℕ, zero, suc, ◌+◌, ◌<◌, ◌�
 use Rattle.printer_model.specs.Executed.{opens}
 use Rattle.printer_model.specs.declared.event.WorldEvent.{WorldEvent}
 use Rattle.printer_link.specs.Link.{LinkKind}
+use Rattle.printer_link.specs.Suits.{Suits}
 use Rattle.send_window.specs.Data.{IsSound}
 use Rattle.octo_session.specs.Data.{SessionData}
 use Rattle.octo_asks.specs.History.{History}
@@ -21,14 +22,15 @@ AreCalls (entry.Call worker ask moment answer ∷ es) = AreCalls es
 AreCalls (entry.Note note ∷ es) = ⊥
 AreCalls (entry.Close ∷ es) = ⊥
 
--- no link was made yet
-pub record IsUnmade (x : SessionData) : Type 0 where
+-- no link was made yet, and one that is made suits the session's sender
+pub record IsUnmade (kind : LinkKind) (x : SessionData) : Type 0 where
   pub down : x.up ≡ false
   pub sound : IsSound x.sender
+  pub suits : Suits false kind.oks
 
 -- the host's session, its issued texts and acknowledged lines, and the last link that was made; or none was made yet
 abbrev pub IsCurrent : LinkKind → ℕ → List (List ℕ) → ℕ → List WorldEvent → SessionData → Type 0
-IsCurrent kind zero texts acked past x = IsUnmade x
+IsCurrent kind zero texts acked past x = IsUnmade kind x
 IsCurrent kind (suc session) texts acked past x = IsOpened kind texts x past × (x.sender.acked ≡ acked)
 
 -- one order of a history and of its link's history since an earlier one, which was tied after every entry, and what the link

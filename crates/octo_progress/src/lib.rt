@@ -7,6 +7,7 @@ mod progress;
 mod shown;
 mod tally;
 mod temps;
+mod watched;
 mod words;
 
 pub use progress::{ProgressLink, Showing};

@@ -28,7 +28,7 @@ pub enum Showing {
 /// A link whose lines and replies are counted, and shown on a log as the print goes on.
 #[derive(Drop)]
 pub struct ProgressLink<L: Link + Drop, G: Sink + Drop, C: Clock + Drop> {
-    link: L,
+    pub(crate) link: L,
     log: G,
     clock: C,
     showing: Showing,

@@ -102,7 +102,7 @@ module _ (moment : ℕ) (kind : LinkKind) where
             (λ past added more one two. (let At : WorldData → Type 0 = λ w. AreAdded moment kind.prompt ys t w more in
             let From : SenderData → Type 0 = λ v. AreAdded moment kind.prompt ys v (world_from (world_in kind past) added) more in
             added_then moment kind.prompt xs ys s (world_in kind past) added more one
-            (subst From first.sender (subst At (world_of-append kind.slots kind.numbered past added) two))));
+            (subst From first.sender (subst At (world_of-append kind.slots kind.oks past added) two))));
         calls = second.calls ∙ ap (calls_after ys) first.calls ∙ sym (calls_after-append xs ys a);
       }
 
@@ -248,7 +248,7 @@ pub opens_placed : (kind : LinkKind) (old new : Option (List WorldEvent)) (s : S
     Grows kind old new (IsDone opens s)
 opens_placed kind old new s has grew =
     recorded_so old new (λ past added. IsDial (world_in kind past) added) (λ past added. IsDone opens s (world_in kind past) added) grew
-    (λ past added dial. (let same : (world_in kind past).printer.slots ≡ kind.slots = (world_from-IsSameKind (new_world kind.slots kind.numbered) past).slots
+    (λ past added dial. (let same : (world_in kind past).printer.slots ≡ kind.slots = (world_from-IsSameKind (new_world kind.slots kind.oks) past).slots
     in
     (dial, record { some = omega (arith, same, has.some); few = omega (arith, same, has.few) })))
 

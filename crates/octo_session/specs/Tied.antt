@@ -16,11 +16,11 @@ world_before kind past s = world_in kind (till (pred s) past)
 pub record IsTied (kind : LinkKind) (issued : List (List ℕ)) (acked : ℕ) (past : List WorldEvent) (s : ℕ) : Type 0 where
   -- what was executed are the first issued texts, in order and each once, with the numbers from 2 on
   pub executed_first :
-      executed kind.slots kind.numbered past s
-      ≡ logged_from 1 (take (length (executed kind.slots kind.numbered past s)) issued)
+      executed kind.slots kind.oks past s
+      ≡ logged_from 1 (take (length (executed kind.slots kind.oks past s)) issued)
   -- the acknowledged lines are counted over the received replies, and all of them were executed
   pub acked_is : acked ≡ acked_of (replies_from (world_before kind past s) (events_of_session s past))
-  pub acked_run : acked ≤ length (executed kind.slots kind.numbered past s)
+  pub acked_run : acked ≤ length (executed kind.slots kind.oks past s)
   -- each line that was sent is the hello or an issued line above acked; one that failed is the last one
   pub sends : AreSendsFit issued [] (world_before kind past s) (events_of_session s past)
 

@@ -41,4 +41,5 @@ demo_schedule seed commands = record {
   slow = 0;
   fail_at = [];
   restart_at = [];
+  lost = [];
 }

@@ -51,7 +51,7 @@ pub record IsDemo (seed commands : ℕ) (demo : Demo) : Type 0 where
 -- what happened on a link
 abbrev pub counts_of : MemoryLinkData → DemoCounts
 counts_of link = record {
-  executed = length (executed link.story.slots link.story.numbered link.story.past 1);
+  executed = length (executed link.story.slots link.story.oks link.story.past 1);
   sent = sends link.story.past;
   faults = count_by is_loss link.story.past;
 }

@@ -61,6 +61,7 @@ fn plain_session(alloc: Global) -> Result<Session, AllocError>
 // Prints a job over a link to which nothing happened before, in a session of its own.
 fn print_over(alloc: Global, link: &mut MemoryLink, job: Job) -> Result<PrintEnd, AllocError>
     requires new { link.old.story.past ≡ [] }
+    requires plain { link.old.story.oks.lost ≡ false }
     requires down { (link_world link.old).linked ≡ false }
     ensures { IfOk result (IsPrint (link_kind link.old) job link.new) }
 {

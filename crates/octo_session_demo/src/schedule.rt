@@ -113,5 +113,6 @@ pub fn demo_schedule(alloc: Global, seed: u32, commands: u32) -> Result<Schedule
         slow: 0,
         fail_at: CallList::new(alloc),
         restart_at: CallList::new(alloc),
+        lost: CallList::new(alloc),
     })
 }

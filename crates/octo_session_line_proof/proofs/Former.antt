@@ -20,7 +20,7 @@ pred_less (suc n) some = omega arith
 
 -- a session stays tied as a history becomes another one that ran it as before and has the same events up to it
 pub tied_as : (kind : LinkKind) (issued : List (List ℕ)) (acked s : ℕ) (past all : List WorldEvent)
-    → executed kind.slots kind.numbered all s ≡ executed kind.slots kind.numbered past s
+    → executed kind.slots kind.oks all s ≡ executed kind.slots kind.oks past s
     → till s all ≡ till s past → till (pred s) all ≡ till (pred s) past → IsTied kind issued acked past s → IsTied kind issued acked all s
 tied_as kind issued acked s past all ran here before t =
     let world : world_before kind all s ≡ world_before kind past s = ap (world_in kind) before in
@@ -46,6 +46,6 @@ pub former_tied : (kind : LinkKind) (issued : List (List ℕ)) (acked : ℕ) (pa
 former_tied kind issued acked past rest last some t =
     let s : ℕ = opens past in
     tied_as kind issued acked s past (past ++ Opened last ∷ rest)
-    (executed-before kind.slots kind.numbered past rest last s (omega arith))
+    (executed-before kind.slots kind.oks past rest last s (omega arith))
     (till-stop past rest last ∙ sym (till-all s past (omega arith)))
     (till-append (pred s) past (Opened last ∷ rest) (pred_less s some)) t

@@ -10,7 +10,7 @@ use Rattle.printer_model.specs.Printer.{Entry, Logged, IsRefusal, is_full, take_
 use Rattle.printer_model.specs.Replies.{asked_after, error_line, resend_line, ok_line, start_line, run_reply}
 use Rattle.printer_model.specs.World.{WorldData, is_empty, is_free, can_happen, happen, apply, world_from, fits_wire, after_arrival, after_run}
 use Rattle.printer_model.specs.declared.event.WorldEvent.{WorldEvent}
-use Rattle.printer_model.specs.declared.event.WorldEvent.TheVariants.{Opened, Send, Arrive, Lose, Garble, Run, Restart, Chatter, Recv, Closed}
+use Rattle.printer_model.specs.declared.event.WorldEvent.TheVariants.{Opened, Send, Arrive, Lose, LoseReply, Garble, Run, Restart, Chatter, Recv, Closed}
 use Rattle.printer_model.specs.declared.printer.Reason.{Reason}
 use Rattle.printer_model.specs.declared.printer.Reason.TheVariants.{WrongNumber}
 use Rattle.printer_model.proofs.Judging.{judged-failing}
@@ -60,6 +60,7 @@ module _ (start : List Logged) (issued : List (List ℕ)) (s : SenderData) (w : 
         wires = record a { up = remove a.up at };
         shows = record {
           few = sh.few;
+          plain = sh.plain;
           queue = sh.queue;
           log = sh.log;
           up = ap (λ (up : List (List ℕ)). remove up at) sh.up ∙ sym (map_remove bytes_on a.up at);
@@ -86,6 +87,7 @@ module _ (start : List Logged) (issued : List (List ℕ)) (s : SenderData) (w : 
         wires = record a { up = up };
         shows = record {
           few = sh.few;
+          plain = sh.plain;
           queue = sh.queue;
           log = sh.log;
           up = ap (λ (l : List (List ℕ)). set l at bytes) sh.up ∙ sym (map-set bytes_on a.up at (corrupted bytes));
@@ -113,6 +115,7 @@ module _ (start : List Logged) (issued : List (List ℕ)) (s : SenderData) (w : 
         wires = record a { way = a.way ++ chat ∷ [] };
         shows = record {
           few = sh.few;
+          plain = sh.plain;
           queue = sh.queue;
           log = sh.log;
           up = sh.up;
@@ -138,6 +141,7 @@ module _ (start : List Logged) (issued : List (List ℕ)) (s : SenderData) (w : 
         wires = record a { dropped = a.ran; queue = []; way = a.way ++ restart ∷ [] };
         shows = record {
           few = sh.few;
+          plain = sh.plain;
           queue = refl;
           log = sh.log;
           up = sh.up;
@@ -173,13 +177,14 @@ module _ (start : List Logged) (issued : List (List ℕ)) (s : SenderData) (w : 
   ran_meets a piece queue true on sh n =
       let few : length issued ≤ 1999999999 = omega (arith, n.holds.count, n.sound.few) in
       let free = w.printer.slots - length w.printer.queue in
-      let reply = run_reply w.printer.numbered (Some (front_in piece)) (text_in piece) free in
-      let its : IsRunReply reply (front_in piece) = run_heard w.printer.numbered (front_in piece) free (text_in piece) (front_small issued a.ran a.dropped w.printer.last piece queue a.log few n.printed) (omega (arith, sh.few)) in
+      let reply = run_reply w.printer.oks.numbered (Some (front_in piece)) (text_in piece) free in
+      let its : IsRunReply reply (front_in piece) = run_heard w.printer.oks.numbered (front_in piece) free (text_in piece) (front_small issued a.ran a.dropped w.printer.last piece queue a.log few n.printed) (omega (arith, sh.few)) in
       let ran : IsAfterStep issued s w.linked (record a { ran = true; queue = queue; log = a.log ++ piece ∷ []; way = a.way ++ answer_to piece its.named ∷ [] }) = run_open issued s w.linked w.printer.last a piece queue its.named on n.printed n.phase n.replies in
       record {
         wires = record a { ran = true; queue = queue; log = a.log ++ piece ∷ []; way = a.way ++ answer_to piece its.named ∷ [] };
         shows = record {
           few = sh.few;
+          plain = sh.plain;
           queue = refl;
           log = logged_more a piece sh.log;
           up = sh.up;
@@ -197,12 +202,13 @@ module _ (start : List Logged) (issued : List (List ℕ)) (s : SenderData) (w : 
       }
   ran_meets a piece queue false off sh n =
       let free = w.printer.slots - length w.printer.queue in
-      let reply = run_reply w.printer.numbered (Some (front_in piece)) (text_in piece) free in
+      let reply = run_reply w.printer.oks.numbered (Some (front_in piece)) (text_in piece) free in
       let ran : IsAfterStep issued s w.linked (record a { ran = true; queue = queue; log = a.log ++ piece ∷ [] }) = run_shut issued s w.linked a piece queue off n.phase n.replies in
       record {
         wires = record a { ran = true; queue = queue; log = a.log ++ piece ∷ [] };
         shows = record {
           few = sh.few;
+          plain = sh.plain;
           queue = refl;
           log = logged_more a piece sh.log;
           up = sh.up;
@@ -237,6 +243,7 @@ module _ (start : List Logged) (issued : List (List ℕ)) (s : SenderData) (w : 
     wires = record a { up = up; queue = a.queue ++ piece ∷ [] };
     shows = record {
       few = sh.few;
+      plain = sh.plain;
       queue = ap (λ (q : List Entry). q ++ entry_in piece ∷ []) sh.queue ∙ sym (map-append entry_in a.queue (piece ∷ []));
       log = sh.log;
       up = refl;
@@ -268,6 +275,7 @@ module _ (start : List Logged) (issued : List (List ℕ)) (s : SenderData) (w : 
         wires = record a { up = up; way = a.way ++ refusal (asked_after last) ∷ [] };
         shows = record {
           few = sh.few;
+          plain = sh.plain;
           queue = sh.queue;
           log = sh.log;
           up = refl;
@@ -327,6 +335,10 @@ module _ (start : List Logged) (issued : List (List ℕ)) (s : SenderData) (w : 
   free_meets (Send line) free m = absurd (cc)
   free_meets Arrive free m = arrive_meets m.wires m.wires.up (is_full w.printer) refl m.shows m.numbers
   free_meets (Lose at) free m = after_event (λ v. Meets start issued s v) w (Lose at) m (λ can. lose_meets at m)
+  free_meets (LoseReply at) free m =
+      let M : WorldData → Type 0 = λ v. Meets start issued s v in
+      let cannot : can_happen w (LoseReply at) ≡ false = ap (λ (b : Bool). b && nat_lt at (length w.down)) m.shows.plain in
+      subst M (sym (stays w (LoseReply at) cannot)) m
   free_meets (Garble at line) free m =
       after_event (λ v. Meets start issued s v) w (Garble at line) m
       (λ can. corrupt_meets at line.items (and_parts (fails line.items) (fits_wire line.items) (and_parts (nat_lt at (length w.up)) (fails line.items && fits_wire line.items) can).1).0 m)

@@ -31,7 +31,7 @@ use Rattle.octo_session_line_proof.proofs.Tracing.{Leads, extends_none, leads_th
 hello_unready : (s : SenderData) → IsSound s → next_of s ≡ Some hello → s.ready ≡ false
 hello_unready s sound is = grind (arith, common_steps)
 
-line_held : (s : SenderData) (texts : List (List ℕ)) (place : ℕ) (text : List ℕ) → IsSound s → HoldsIssued texts s → next_of s ≡ Some (line place text) →
+pub line_held : (s : SenderData) (texts : List (List ℕ)) (place : ℕ) (text : List ℕ) → IsSound s → HoldsIssued texts s → next_of s ≡ Some (line place text) →
     IsUnacknowledged texts s place text
 line_held s texts place text sound holds is = grind (arith, common_steps, gets)
 

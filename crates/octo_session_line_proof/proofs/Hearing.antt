@@ -323,6 +323,7 @@ heard_meets start issued moment s w line rest a way on running front sh n first 
       wires = record a { way = rest_of x first.rest };
       shows = record {
         few = sh.few;
+        plain = sh.plain;
         queue = sh.queue;
         log = sh.log;
         up = sh.up;

@@ -23,8 +23,8 @@ none_printed kind past added none =
     let few : opens all ≡ opens past = omega (arith, opens-append past added, none) in
     let upto : till (suc (opens past)) all ≡ all = till-all (suc (opens past)) all (omega (arith, few)) in
     let before : till (opens past) all ≡ all = till-all (opens past) all (omega (arith, few)) in
-    let log : List WorldEvent → List Logged = λ es. (world_of kind.slots kind.numbered es).log in
-    let ran : executed kind.slots kind.numbered all (suc (opens past)) ≡ [] =
+    let log : List WorldEvent → List Logged = λ es. (world_of kind.slots kind.oks es).log in
+    let ran : executed kind.slots kind.oks all (suc (opens past)) ≡ [] =
     ap (λ (es : List WorldEvent). filter is_counted (drop (length (log es)) (log (till (suc (opens past)) all)))) before
     ∙ ap (λ (es : List WorldEvent). filter is_counted (drop (length (log all)) (log es))) upto
     ∙ ap (filter is_counted) (drop_whole (log all))

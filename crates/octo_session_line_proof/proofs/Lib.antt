@@ -1,3 +1,4 @@
+pub mod AllSent
 pub mod Arrivals
 pub mod Causes
 pub mod Counting
@@ -16,6 +17,7 @@ pub mod Promised
 pub mod Quiet
 pub mod Reading
 pub mod Recorded
+pub mod Sent
 pub mod Sending
 pub mod Speech
 pub mod Starting

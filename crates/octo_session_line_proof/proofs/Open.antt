@@ -7,7 +7,7 @@ use Rattle.job_desk.specs.declared.link_fact.LinkFact.{LinkFact}
 use Rattle.job_desk.specs.declared.link_fact.LinkFact.TheVariants as fact
 use Rattle.printer_model.specs.World.{WorldData, is_free, happen, apply, world_from}
 use Rattle.printer_model.specs.declared.event.WorldEvent.{WorldEvent}
-use Rattle.printer_model.specs.declared.event.WorldEvent.TheVariants.{Opened, Send, Arrive, Lose, Garble, Run, Restart, Chatter, Recv, Closed}
+use Rattle.printer_model.specs.declared.event.WorldEvent.TheVariants.{Opened, Send, Arrive, Lose, LoseReply, Garble, Run, Restart, Chatter, Recv, Closed}
 use Rattle.printer_model.proofs.Laws.{after_event, happens, world_from-append, world_from-push, world_from-linked}
 use Rattle.printer_model.proofs.Starts.{runs-free}
 use Rattle.printer_link.specs.Link.{IsSendOf}
@@ -56,6 +56,7 @@ sent_around w bytes before behind (Send line) is first last = around w before be
 sent_around w bytes before behind (Opened number) is first last = absurd is
 sent_around w bytes before behind Arrive is first last = absurd is
 sent_around w bytes before behind (Lose at) is first last = absurd is
+sent_around w bytes before behind (LoseReply at) is first last = absurd is
 sent_around w bytes before behind (Garble at line) is first last = absurd is
 sent_around w bytes before behind Run is first last = absurd is
 sent_around w bytes before behind Restart is first last = absurd is

@@ -18,6 +18,7 @@ use Rattle.printer_link.specs.Link.{LinkKind, IsOpenAs, world_in}
 use Rattle.printer_model.specs.Exchanged.{sends_since, replies_from}
 use Rattle.send_window.specs.Counting.{IsQuiet}
 use Rattle.send_window.specs.Data.{SenderData, IsSound}
+use Rattle.printer_link.specs.Suits.{SuitsAs}
 use Rattle.octo_session.specs.Data.{SessionData, doing}
 use Rattle.octo_session.specs.Found.{Got, unasked, lost, nothing, whole, end_by, can_find}
 use Rattle.octo_session.specs.declared.found.Doing.{Doing}
@@ -135,10 +136,10 @@ module _ (moment : ℕ) (kind : LinkKind) (old new : SessionData) (got : Got) (f
 
 -- a new session is linked over a link that is closed
 pub new_linked : (kind : LinkKind) (recorded : Option (List WorldEvent)) (x : SessionData) → x.up ≡ false → IsSound x.sender →
-    IsOpenAs kind recorded false → LinkedAs kind recorded [] x
-new_linked kind recorded x down sound closed past is =
+    SuitsAs false recorded kind.oks → IsOpenAs kind recorded false → LinkedAs kind recorded [] x
+new_linked kind recorded x down sound suits closed past is =
     let O : Option (List WorldEvent) → Type 0 = λ r. IsOpenAs kind r false in
-    unopened (record { none_issued = refl; down = down; closed = subst O is closed; sound = sound })
+    unopened (record { none_issued = refl; down = down; closed = subst O is closed; sound = sound; suits = suits past is })
 
 -- another desk leaves the session's link as it is
 pub same_opened : (kind : LinkKind) (issued : List (List ℕ)) (x y : SessionData) (past : List WorldEvent) → y.sender ≡ x.sender → y.up ≡ x.up →
@@ -157,13 +158,14 @@ same_opened kind issued x y past sender up o =
       open_as = o.open_as ∙ sym up;
       quiet = λ is_up. subst Q (sym sender) (o.quiet (sym up ∙ is_up));
       caused = subst C (sym sender) o.caused;
+      suits = o.suits;
     }
 
 same_linked : (kind : LinkKind) (issued : List (List ℕ)) (x y : SessionData) (past : List WorldEvent) → y.sender ≡ x.sender → y.up ≡ x.up →
     IsLinked kind issued x past → IsLinked kind issued y past
 same_linked kind issued x y past sender up (unopened u) =
     let S : SenderData → Type 0 = λ s. IsSound s in
-    unopened (record { none_issued = u.none_issued; down = up ∙ u.down; closed = u.closed; sound = subst S (sym sender) u.sound })
+    unopened (record { none_issued = u.none_issued; down = up ∙ u.down; closed = u.closed; sound = subst S (sym sender) u.sound; suits = u.suits })
 same_linked kind issued x y past sender up (opened o) = opened (same_opened kind issued x y past sender up o)
 
 -- a call of the desk leaves a session linked

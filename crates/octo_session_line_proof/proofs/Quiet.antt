@@ -8,7 +8,7 @@ use Rattle.job_desk.specs.declared.link_fact.LinkFact.TheVariants as fact
 use Rattle.printer_model.specs.World.{WorldData, is_free, world_from}
 use Rattle.printer_model.specs.Exchanged.{sends_since}
 use Rattle.printer_model.specs.declared.event.WorldEvent.{WorldEvent}
-use Rattle.printer_model.specs.declared.event.WorldEvent.TheVariants.{Opened, Send, Arrive, Lose, Garble, Run, Restart, Chatter, Recv, Closed}
+use Rattle.printer_model.specs.declared.event.WorldEvent.TheVariants.{Opened, Send, Arrive, Lose, LoseReply, Garble, Run, Restart, Chatter, Recv, Closed}
 use Rattle.printer_model.proofs.Starts.{sends_since-append, sends_since-free}
 use Rattle.printer_link.specs.Link.{IsSendOf, IsHeard}
 use Rattle.send_window.specs.Counting.{IsQuiet, OwesLine}
@@ -37,6 +37,7 @@ since_sent since bytes before behind (Send line) is first last =
 since_sent since bytes before behind (Opened number) is first last = absurd is
 since_sent since bytes before behind Arrive is first last = absurd is
 since_sent since bytes before behind (Lose at) is first last = absurd is
+since_sent since bytes before behind (LoseReply at) is first last = absurd is
 since_sent since bytes before behind (Garble at line) is first last = absurd is
 since_sent since bytes before behind Run is first last = absurd is
 since_sent since bytes before behind Restart is first last = absurd is
@@ -94,15 +95,15 @@ all_owe moment since is_prompt (step ∷ steps) s w added saying allowed is o =
     let more = all_owe moment (sends_since since is.0) is_prompt steps t (world_from w is.0) is.1 saying.1 allowed.1 is.4 one in
     subst O (sym is.2) (subst N (sym (sends_since-append since is.0 is.1)) more)
 
-saying_append : (xs ys : List Step) → Each IsIssueOrSend xs → Each IsIssueOrSend ys → Each IsIssueOrSend (xs ++ ys)
+pub saying_append : (xs ys : List Step) → Each IsIssueOrSend xs → Each IsIssueOrSend ys → Each IsIssueOrSend (xs ++ ys)
 saying_append [] ys first second = second
 saying_append (x ∷ xs) ys first second = (first.0, saying_append xs ys first.1 second)
 
-saying_issuing : (texts : List (List ℕ)) → Each IsIssueOrSend (issuing texts)
+pub saying_issuing : (texts : List (List ℕ)) → Each IsIssueOrSend (issuing texts)
 saying_issuing [] = tt
 saying_issuing (text ∷ texts) = (tt, saying_issuing texts)
 
-saying_gives : (count : ℕ) → Each IsIssueOrSend (replicate count gives)
+pub saying_gives : (count : ℕ) → Each IsIssueOrSend (replicate count gives)
 saying_gives zero = tt
 saying_gives (suc count) = (tt, saying_gives count)
 

@@ -178,6 +178,7 @@ sent_meets start issued moment s w sent bytes on is undue may m =
       wires = record a { up = a.up ++ sent ∷ [] };
       shows = record {
         few = sh.few;
+        plain = sh.plain;
         queue = sh.queue;
         log = sh.log;
         up = ap (λ (l : List (List ℕ)). l ++ bytes ∷ []) sh.up ∙ ap (λ (b : List ℕ). map bytes_on a.up ++ b ∷ []) is ∙ sym (map-append bytes_on a.up (sent ∷ []));
@@ -249,12 +250,13 @@ none_of [] is = refl
 none_of (x ∷ xs) is = absurd (cc)
 
 -- a link is made: a session begins
-pub opened_meets : (s : SenderData) (w : WorldData) (last : ℕ) → IsSound s → w.printer.slots ≤ 16 → can_happen w (Opened last) ≡ true →
+pub opened_meets : (s : SenderData) (w : WorldData) (last : ℕ) → IsSound s → w.printer.slots ≤ 16 → w.printer.oks.lost ≡ false → can_happen w (Opened last) ≡ true →
     Meets w.log [] (sender_after_dial s) (happen w (Opened last))
-opened_meets s w last sound few can = record {
+opened_meets s w last sound few plain can = record {
   wires = record { ran = false; dropped = false; queue = []; log = []; up = []; way = [] };
   shows = record {
     few = few;
+    plain = plain;
     queue = none_of w.printer.queue (and_parts (not w.linked) (is_empty w.printer.queue) can).1;
     log = sym (append-nil w.log);
     up = refl;
@@ -292,7 +294,7 @@ closed_meets start issued s w m =
     let n = m.numbers in
     record {
       wires = record a { up = []; way = [] };
-      shows = record { few = sh.few; queue = sh.queue; log = sh.log; up = refl; down = refl };
+      shows = record { few = sh.few; plain = sh.plain; queue = sh.queue; log = sh.log; up = refl; down = refl };
       numbers = record {
         sound = n.sound;
         holds = n.holds;

@@ -9,7 +9,7 @@ use Rattle.printer_model.specs.Printer.{Entry, Logged, PrinterData, is_full, tak
 use Rattle.printer_model.specs.Replies.{error_line, resend_line, ok_line, run_reply, taken_replies}
 use Rattle.printer_model.specs.World.{WorldData, is_empty, is_free, can_happen, apply, world_from, arrive_front, down_with_reply, is_restart}
 use Rattle.printer_model.specs.declared.event.WorldEvent.{WorldEvent}
-use Rattle.printer_model.specs.declared.event.WorldEvent.TheVariants.{Opened, Send, Arrive, Lose, Garble, Run, Restart, Chatter, Recv, Closed}
+use Rattle.printer_model.specs.declared.event.WorldEvent.TheVariants.{Opened, Send, Arrive, Lose, LoseReply, Garble, Run, Restart, Chatter, Recv, Closed}
 use Rattle.printer_model.specs.declared.printer.Reason.{Reason}
 use Rattle.printer_model.specs.declared.printer.Taken.TheVariants.{Full}
 use Rattle.printer_model.proofs.Laws.{after_event, stays, run_queue_of}
@@ -17,7 +17,7 @@ use Rattle.send_window.specs.Data.{SenderData}
 use Rattle.octo_session_line_proof.specs.Pieces.{Piece, Each, heard_in, talk_heard, ok_heard, named_by, entry_in, front_in, text_in}
 use Rattle.octo_session_line_proof.specs.Wires.{Wires, Shows, Numbers, Meets}
 use Rattle.octo_session_line_proof.specs.Traces.{IsStartKnown}
-use Rattle.octo_session_line_proof.proofs.Lists.{each_push, each_so}
+use Rattle.octo_session_line_proof.proofs.Lists.{each_remove, each_push, each_so}
 use Rattle.octo_session_line_proof.proofs.Reading.{heard_error, heard_resend, heard_ok, heard_chatter, run_heard, IsRunReply}
 use Rattle.octo_session_line_proof.proofs.Free.{free_meets, front_small}
 
@@ -82,8 +82,8 @@ module _ (start : List Logged) (issued : List (List ℕ)) (s : SenderData) (even
       let E : WorldData → Type 0 = λ v. Each (IsStartKnown events) v.down in
       let few : length issued ≤ 1999999999 = omega (arith, n.holds.count, n.sound.few) in
       let free = w.printer.slots - length w.printer.queue in
-      let reply = run_reply w.printer.numbered (Some (front_in piece)) (text_in piece) free in
-      let its : IsRunReply reply (front_in piece) = run_heard w.printer.numbered (front_in piece) free (text_in piece) (front_small issued a.ran a.dropped w.printer.last piece queue a.log few n.printed) (omega (arith, sh.few)) in
+      let reply = run_reply w.printer.oks.numbered (Some (front_in piece)) (text_in piece) free in
+      let its : IsRunReply reply (front_in piece) = run_heard w.printer.oks.numbered (front_in piece) free (text_in piece) (front_small issued a.ran a.dropped w.printer.last piece queue a.log few n.printed) (omega (arith, sh.few)) in
       let known : IsStartKnown events reply = λ is. (let ok : heard_in reply ≡ ok_heard (named_by its.named (front_in piece)) = its.heard in absurd (cc)) in
       subst E (sym (run_queue_of w (entry_in piece) (map entry_in queue) sh.queue)) (replied_starts w reply w.linked refl known all)
 
@@ -97,6 +97,10 @@ module _ (start : List Logged) (issued : List (List ℕ)) (s : SenderData) (even
       (λ can. arrived_starts (events ++ Arrive ∷ []) w w.up (starts_more events (Arrive ∷ []) w.down all))
   event_starts w (Lose at) free m all =
       after_event (λ v. Each (IsStartKnown (events ++ Lose at ∷ [])) v.down) w (Lose at) (starts_more events (Lose at ∷ []) w.down all) (λ can. starts_more events (Lose at ∷ []) w.down all)
+  event_starts w (LoseReply at) free m all =
+      let later : Each (IsStartKnown (events ++ LoseReply at ∷ [])) w.down = starts_more events (LoseReply at ∷ []) w.down all in
+      after_event (λ v. Each (IsStartKnown (events ++ LoseReply at ∷ [])) v.down) w (LoseReply at) later
+      (λ can. each_remove (IsStartKnown (events ++ LoseReply at ∷ [])) w.down at later)
   event_starts w (Garble at line) free m all =
       after_event (λ v. Each (IsStartKnown (events ++ Garble at line ∷ [])) v.down) w (Garble at line) (starts_more events (Garble at line ∷ []) w.down all) (λ can. starts_more events (Garble at line ∷ []) w.down all)
   event_starts w Run free m all = starts_more events (Run ∷ []) (apply w Run).down (run_starts w m.wires m.wires.queue m.shows m.numbers all)

@@ -7,7 +7,7 @@ use Rattle.marlin_reply.specs.declared.reply.Reply.{Reply}
 use Rattle.printer_model.specs.Printer.{Logged}
 use Rattle.printer_model.specs.World.{WorldData, is_free, can_happen, world_from}
 use Rattle.printer_model.specs.declared.event.WorldEvent.{WorldEvent}
-use Rattle.printer_model.specs.declared.event.WorldEvent.TheVariants.{Opened, Send, Arrive, Lose, Garble, Run, Restart, Chatter, Recv, Closed}
+use Rattle.printer_model.specs.declared.event.WorldEvent.TheVariants.{Opened, Send, Arrive, Lose, LoseReply, Garble, Run, Restart, Chatter, Recv, Closed}
 use Rattle.printer_model.proofs.Laws.{world_from-append, world_from-linked}
 use Rattle.printer_model.proofs.Starts.{runs-free}
 use Rattle.printer_link.specs.Link.{IsSendOf, IsHeard, MaySendFailing}
@@ -71,6 +71,7 @@ module _ (start : List Logged) (issued : List (List ℕ)) (moment : ℕ) (s : Se
   sent_leads next before behind (Opened last_number) is written can first last m tallied = absurd written
   sent_leads next before behind Arrive is written can first last m tallied = absurd written
   sent_leads next before behind (Lose at) is written can first last m tallied = absurd written
+  sent_leads next before behind (LoseReply at) is written can first last m tallied = absurd written
   sent_leads next before behind (Garble at line) is written can first last m tallied = absurd written
   sent_leads next before behind Run is written can first last m tallied = absurd written
   sent_leads next before behind Restart is written can first last m tallied = absurd written
@@ -111,6 +112,7 @@ module _ (start : List Logged) (issued : List (List ℕ)) (moment : ℕ) (s : Se
   lost_leads next before (Opened number ∷ []) behind is may first last on m tallied = absurd may
   lost_leads next before (Arrive ∷ []) behind is may first last on m tallied = absurd may
   lost_leads next before (Lose at ∷ []) behind is may first last on m tallied = absurd may
+  lost_leads next before (LoseReply at ∷ []) behind is may first last on m tallied = absurd may
   lost_leads next before (Garble at line ∷ []) behind is may first last on m tallied = absurd may
   lost_leads next before (Run ∷ []) behind is may first last on m tallied = absurd may
   lost_leads next before (Restart ∷ []) behind is may first last on m tallied = absurd may

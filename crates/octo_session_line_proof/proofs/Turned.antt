@@ -74,7 +74,7 @@ opens_dialling Resting can = absurd (cc)
 pub world_since : (kind : LinkKind) (past front : List WorldEvent) (last : ℕ) (rest : List WorldEvent) →
     past ≡ front ++ Opened last ∷ rest → world_in kind past ≡ world_from (apply (world_in kind front) (Opened last)) rest
 world_since kind past front last rest is =
-    ap (world_in kind) is ∙ world_of-append kind.slots kind.numbered front (Opened last ∷ rest)
+    ap (world_in kind) is ∙ world_of-append kind.slots kind.oks front (Opened last ∷ rest)
 
 pub sound_of : (kind : LinkKind) (issued : List (List ℕ)) (x : SessionData) (past : List WorldEvent) → IsLinked kind issued x past → IsSound x.sender
 sound_of kind issued x past (unopened u) = u.sound
@@ -87,7 +87,7 @@ linked_as kind issued x past (opened o) = o.open_as
 
 -- the world after the turn
 pub world_then : (kind : LinkKind) (past added : List WorldEvent) → world_in kind (past ++ added) ≡ world_from (world_in kind past) added
-world_then kind past added = world_of-append kind.slots kind.numbered past added
+world_then kind past added = world_of-append kind.slots kind.oks past added
 
 -- the steps that are made in a turn that makes no link, if the session isn't up, leave the sender
 pub idle_steps : (moment : ℕ) (d : Doing) (was_up : Bool) (got : Got) (found : LinkFact) (texts : List (List ℕ)) (count : ℕ) (s : SenderData) →

@@ -5,7 +5,7 @@ use Rattle.marlin_reply.specs.declared.reply.Reply.{Reply}
 use Rattle.job_desk.specs.declared.link_fact.LinkFact.{LinkFact}
 use Rattle.job_desk.specs.declared.link_fact.LinkFact.TheVariants as fact
 use Rattle.printer_model.specs.Printer.{Logged}
-use Rattle.printer_model.specs.World.{WorldData, can_happen, apply, world_from}
+use Rattle.printer_model.specs.World.{new_world, WorldData, can_happen, apply, world_from}
 use Rattle.printer_model.specs.Exchanged.{sends_since, replies_from}
 use Rattle.printer_model.specs.declared.event.WorldEvent.{WorldEvent}
 use Rattle.printer_model.specs.declared.event.WorldEvent.TheVariants.{Opened}
@@ -28,28 +28,36 @@ use Rattle.octo_session_line_proof.proofs.Tracing.{Leads, fits_append, replies_f
 use Rattle.octo_session_line_proof.specs.Issuing.{issued_after, issued_in}
 use Rattle.octo_session_line_proof.specs.Linked.{IsUnopened, IsOpened, IsLinked, unopened, opened}
 use Rattle.octo_session.specs.Causes.{IsCaused}
+use Rattle.printer_link.specs.Suits.{Suits}
+use Rattle.printer_model.specs.declared.oks.Oks.{Oks}
 use Rattle.octo_session_line_proof.proofs.Causes.{talk_caused}
 use Rattle.octo_session_line_proof.proofs.Ends.{IsStill, still_caused, idle_turn, still_idle}
 use Rattle.octo_session_line_proof.proofs.Speech.{turn_leads, issued_turn}
 use Rattle.octo_session_line_proof.proofs.Quiet.{StaysUp, talk_quiet}
 use Rattle.octo_session_line_proof.proofs.Turned.{IsTurned, talks_up, dials_down, rests_down, linked_after, opens_dialling, world_since, sound_of, linked_as, world_then, idle_steps, down_after}
 
+suits_of : (kind : LinkKind) (issued : List (List ℕ)) (x : SessionData) (past : List WorldEvent) → IsLinked kind issued x past → Suits false kind.oks
+suits_of kind issued x past (unopened u) = u.suits
+suits_of kind issued x past (opened o) = o.suits
+
 -- a link is made
-opened_by : (kind : LinkKind) (old new : SessionData) (past added runs : List WorldEvent) (last : ℕ) → IsSound old.sender →
+opened_by : (kind : LinkKind) (old new : SessionData) (past added runs : List WorldEvent) (last : ℕ) → IsSound old.sender → Suits false kind.oks →
     (world_in kind past).printer.slots ≤ 16 → added ≡ runs ++ Opened last ∷ [] →
     can_happen (world_from (world_in kind past) runs) (Opened last) ≡ true → new.sender ≡ sender_after_dial old.sender →
     (world_in kind (past ++ added)).linked ≡ new.up → IsOpened kind [] new (past ++ added)
-opened_by kind old new past added runs last sound few is can sender open_as =
+opened_by kind old new past added runs last sound suits few is can sender open_as =
     let front : List WorldEvent = past ++ runs in
-    let here : world_in kind front ≡ world_from (world_in kind past) runs = world_of-append kind.slots kind.numbered past runs in
+    let here : world_in kind front ≡ world_from (world_in kind past) runs = world_of-append kind.slots kind.oks past runs in
     let Can : WorldData → Type 0 = λ w. can_happen w (Opened last) ≡ true in
     let Few : WorldData → Type 0 = λ w. w.printer.slots ≤ 16 in
     let can_here : can_happen (world_in kind front) (Opened last) ≡ true = subst Can (sym here) can in
     let few_there : (world_from (world_in kind past) runs).printer.slots ≤ 16 = omega (arith, few, (world_from-IsSameKind (world_in kind past) runs).slots) in
     let few_here : (world_in kind front).printer.slots ≤ 16 = subst Few (sym here) few_there in
+    let plain_here : (world_in kind front).printer.oks.lost ≡ false =
+    ap (λ (oks : Oks). oks.lost) (world_from-IsSameKind (new_world kind.slots kind.oks) front).oks ∙ suits in
     let M : WorldData → Type 0 = λ w. Meets (world_in kind front).log [] (sender_after_dial old.sender) w in
     let met : Meets (world_in kind front).log [] (sender_after_dial old.sender) (apply (world_in kind front) (Opened last)) =
-    subst M (sym (happens (world_in kind front) (Opened last) can_here)) (opened_meets old.sender (world_in kind front) last sound few_here can_here)
+    subst M (sym (happens (world_in kind front) (Opened last) can_here)) (opened_meets old.sender (world_in kind front) last sound few_here plain_here can_here)
     in
     let D : WorldData → Type 0 = λ w. Each (IsStartKnown []) w.down in
     let none_down : Each (IsStartKnown []) (apply (world_in kind front) (Opened last)).down = subst D (sym (happens (world_in kind front) (Opened last) can_here)) tt in
@@ -66,6 +74,7 @@ opened_by kind old new past added runs last sound few is can sender open_as =
       open_as = open_as;
       quiet = λ up. subst Q (sym sender) (record { sent_enough = λ _ _ _. omega arith });
       caused = subst C (sym sender) tt;
+      suits = suits;
     }
 
 -- whether a turn makes a link
@@ -99,7 +108,7 @@ module _ (moment : ℕ) (kind : LinkKind) (old new : SessionData) (got : Got) (f
       ap (λ (w : WorldData). w.linked) (world_then kind past added) ∙ linked_after moment kind old new got found texts (world_in kind past) added t (linked_as kind issued old past linked)
       in
       let I : LinkFact → Type 0 = λ f. IsOpened kind (issued_in f texts issued) new (past ++ added) in
-      subst I (sym is) (opened_by kind old new past added dial.runs dial.last (sound_of kind issued old past linked) step.3.0.1.few all dial.opens sender open_as)
+      subst I (sym is) (opened_by kind old new past added dial.runs dial.last (sound_of kind issued old past linked) (suits_of kind issued old past linked) step.3.0.1.few all dial.opens sender open_as)
 
   -- no turn has made one yet
   still_unopened : (found ≡ fact.Opened → ⊥) → IsTurned moment kind old new got found texts (world_in kind past) added →
@@ -116,6 +125,7 @@ module _ (moment : ℕ) (kind : LinkKind) (old new : SessionData) (got : Got) (f
         down = down;
         closed = ap (λ (w : WorldData). w.linked) (world_then kind past added) ∙ linked_after moment kind old new got found texts (world_in kind past) added t (u.closed ∙ sym u.down) ∙ down;
         sound = subst S (sym same) u.sound;
+        suits = u.suits;
       }
     where
       issued_idle : (d : Doing) (was_up : Bool) (g : Got) (f : LinkFact) (ts : List (List ℕ)) (count : ℕ) → (d ≡ UsingLink → ⊥) →
@@ -169,6 +179,7 @@ module _ (moment : ℕ) (kind : LinkKind) (old new : SessionData) (got : Got) (f
         open_as = ap (λ (w : WorldData). w.linked) (world_then kind past added) ∙ linked_after moment kind old new got found texts (world_in kind past) added t o.open_as;
         quiet = λ up. still_quiet up t o;
         caused = caused_by (doing old) refl t o;
+        suits = o.suits;
       }
     where
       caused_idle : (doing old ≡ UsingLink → ⊥) → (t : IsTurned moment kind old new got found texts (world_in kind past) added) →

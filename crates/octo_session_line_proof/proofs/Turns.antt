@@ -14,6 +14,7 @@ use Rattle.printer_model.proofs.Sessions.{opens-append}
 use Rattle.printer_model.proofs.Starts.{opens-free, runs-free}
 use Rattle.printer_link.specs.Link.{LinkKind, Recorded, IsDial, IsHangUp, world_in}
 use Rattle.send_window.specs.Data.{IsSound}
+use Rattle.printer_link.specs.Suits.{Suits}
 use Rattle.octo_session.specs.Data.{SessionData, doing}
 use Rattle.octo_session.specs.Found.{Got, can_find}
 use Rattle.octo_session.specs.Steps.{opens as makes_link, finds_no_port, hangs_up, after_steps, AreAdded, dial_steps, turn_steps}
@@ -99,12 +100,12 @@ module _ (moment : ℕ) (kind : LinkKind) (old new : SessionData) (got : Got) (f
       not_linked true other is = absurd (cc)
 
   -- the turn that makes the link
-  pub made_now : (past added : List WorldEvent) → found ≡ fact.Opened → IsSound old.sender → doing old ≡ Dialling →
+  pub made_now : (past added : List WorldEvent) → found ≡ fact.Opened → IsSound old.sender → Suits false kind.oks → doing old ≡ Dialling →
       IsTurned moment kind old new got found texts (world_in kind past) added → IsMade kind [] new past added
-  made_now past added is sound dials t =
+  made_now past added is sound suits dials t =
       let dial = dial_of past added is t in
       let linked : IsLinked kind [] old past =
-      unopened (record { none_issued = refl; down = dials_down old dials; closed = shut_before (world_in kind past) added dial; sound = sound })
+      unopened (record { none_issued = refl; down = dials_down old dials; closed = shut_before (world_in kind past) added dial; sound = sound; suits = suits })
       in
       let I : LinkFact → Type 0 = λ f. IsOpened kind (issued_in f texts []) new (past ++ added) in
       record {

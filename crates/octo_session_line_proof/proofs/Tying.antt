@@ -91,12 +91,12 @@ tied_at kind issued s front last rest traced =
     let gained : (world_in kind past).log ≡ (world_in kind front).log ++ map logged_in log =
     ap (λ (w : WorldData). w.log) (world_since kind past front last rest refl) ∙ m.shows.log
     in
-    let ran : executed kind.slots kind.numbered past (suc (opens front)) ≡ filter is_counted (map logged_in log) =
-    executed-from kind.slots kind.numbered front rest last (map logged_in log) traced.same_session gained
+    let ran : executed kind.slots kind.oks past (suc (opens front)) ≡ filter is_counted (map logged_in log) =
+    executed-from kind.slots kind.oks front rest last (map logged_in log) traced.same_session gained
     in
     let by : IsExecuted issued log (filter is_counted (map logged_in log)) = executed_by issued m.wires.ran m.wires.dropped (world_from base rest).printer.last m.wires.queue log n.printed in
     let E : List Logged → Type 0 = λ l. IsExecuted issued log l in
-    let so : IsExecuted issued log (executed kind.slots kind.numbered past (suc (opens front))) = subst E (sym ran) by in
+    let so : IsExecuted issued log (executed kind.slots kind.oks past (suc (opens front))) = subst E (sym ran) by in
     let world : world_before kind past (suc (opens front)) ≡ world_in kind front = ap (world_in kind) (till-stop front rest last) in
     let events : events_of_session (suc (opens front)) past ≡ Opened last ∷ rest = session_of-last front rest last traced.same_session in
     let S : WorldData → Type 0 = λ w. AreSendsFit issued [] w (events_of_session (suc (opens front)) past) in

@@ -1,3 +1,4 @@
+pub mod AllSent
 pub mod History
 pub mod Issuing
 pub mod Linked

@@ -12,6 +12,7 @@ use Rattle.send_window.specs.Data.{IsSound}
 use Rattle.octo_session.specs.Data.{SessionData}
 use Rattle.octo_session_line_proof.specs.Traces.{IsTraced}
 use Rattle.octo_session.specs.Causes.{IsCaused}
+use Rattle.printer_link.specs.Suits.{Suits}
 use Rattle.octo_session.specs.Turn.{IsTurn, IsTurnByNote}
 use Rattle.octo_session.specs.declared.found.Turned.{Turned}
 
@@ -21,6 +22,7 @@ pub record IsUnopened (kind : LinkKind) (issued : List (List ℕ)) (x : SessionD
   pub down : x.up ≡ false
   pub closed : (world_in kind past).linked ≡ false
   pub sound : IsSound x.sender
+  pub suits : Suits false kind.oks
 
 -- the last link of the history is the session's, and these are the texts of the lines issued since it was made
 pub record IsOpened (kind : LinkKind) (issued : List (List ℕ)) (x : SessionData) (past : List WorldEvent) : Type 0 where
@@ -38,6 +40,7 @@ pub record IsOpened (kind : LinkKind) (issued : List (List ℕ)) (x : SessionDat
   pub quiet : x.up ≡ true → IsQuiet (sends_since 0 rest) x.sender
   -- the sender ended with a cause, if it ended
   pub caused : IsCaused x.sender.ended (apply (world_in kind front) (Opened last)) rest
+  pub suits : Suits false kind.oks
 
 -- a session, the texts issued in its last link and a history fit together
 pub data IsLinked (kind : LinkKind) (issued : List (List ℕ)) (x : SessionData) (past : List WorldEvent) : Type 0 where

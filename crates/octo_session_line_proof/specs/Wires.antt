@@ -23,6 +23,8 @@ pub record Wires : Type 0 where
 -- a world shows these wires; the log had these lines before the session
 pub record Shows (start : List Logged) (a : Wires) (w : WorldData) : Type 0 where
   pub few : w.printer.slots ≤ 16
+  -- no reply is lost
+  pub plain : w.printer.oks.lost ≡ false
   pub queue : w.printer.queue ≡ map entry_in a.queue
   pub log : w.log ≡ start ++ map logged_in a.log
   pub up : w.up ≡ map bytes_on a.up

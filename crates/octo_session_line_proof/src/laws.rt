@@ -8,6 +8,7 @@ ghost use Rattle.send_window.specs.Data.{IsSound};
 ghost use Rattle.send_window.specs.declared.session_end.SessionEnd.{SessionEnd};
 ghost use Rattle.octo_session.specs.Data.{SessionData};
 ghost use Rattle.octo_session.specs.Causes.{EndCausedAs};
+ghost use Rattle.printer_link.specs.Suits.{SuitsAs};
 ghost use Rattle.octo_session.specs.Turn.{fact_of};
 ghost use Rattle.octo_session.specs.declared.found.Turned.{Turned};
 ghost use Rattle.octo_session_line_proof.specs.Issuing.{issued_by_turn};
@@ -17,7 +18,8 @@ ghost use Rattle.octo_session_line_proof.specs.Tied.{TiedAs, FormerTiedAs};
 /// A new session is linked over a closed link, and a call of the desk alone leaves it linked.
 pub fn linked_law()
     ensures begins { (kind : LinkKind) (recorded : Option (List WorldEvent)) (x : SessionData)
-        → x.up ≡ false → IsSound x.sender → IsOpenAs kind recorded false
+        → x.up ≡ false → IsSound x.sender → SuitsAs false recorded kind.oks
+        → IsOpenAs kind recorded false
         → LinkedAs kind recorded [] x }
     ensures desk { (kind : LinkKind) (recorded : Option (List WorldEvent)) (issued : List (List ℕ))
         (x y : SessionData)

@@ -5,7 +5,7 @@ use Rattle.std.specs.List.{list_all}
 use Rattle.std.proofs.lemmas.Grind.{common_steps}
 use Rattle.printer_model.specs.World.{WorldData, is_free, can_happen, apply, world_from}
 use Rattle.printer_model.specs.declared.event.WorldEvent.{WorldEvent}
-use Rattle.printer_model.specs.declared.event.WorldEvent.TheVariants.{Opened, Send, Arrive, Lose, Garble, Run, Restart, Chatter, Recv, Closed}
+use Rattle.printer_model.specs.declared.event.WorldEvent.TheVariants.{Opened, Send, Arrive, Lose, LoseReply, Garble, Run, Restart, Chatter, Recv, Closed}
 use Rattle.printer_model.proofs.Laws.{happens}
 use Rattle.printer_link.specs.Link.{IsSend, IsSendOf}
 
@@ -66,6 +66,7 @@ sent_alone bytes w (Send frame) of can =
 sent_alone bytes w (Opened last) of can = absurd of
 sent_alone bytes w Arrive of can = absurd of
 sent_alone bytes w (Lose at) of can = absurd of
+sent_alone bytes w (LoseReply at) of can = absurd of
 sent_alone bytes w (Garble at frame) of can = absurd of
 sent_alone bytes w Run of can = absurd of
 sent_alone bytes w Restart of can = absurd of

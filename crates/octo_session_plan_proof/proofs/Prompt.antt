@@ -161,7 +161,7 @@ run_one place text queued flying w fit few i =
     let entry : Entry = entry_in (command place text) in
     let behind : List Entry = map entry_in (pieces_from (suc place) queued) in
     let free : ℕ = w.printer.slots - length w.printer.queue in
-    let reply : List ℕ = run_reply w.printer.numbered (Some (wire_number place)) text free in
+    let reply : List ℕ = run_reply w.printer.oks.numbered (Some (wire_number place)) text free in
     let ran : apply w Run ≡ after_run w (run_queue w.printer (entry ∷ behind)) = run_queue_of w entry behind i.queue in
     let down : (apply w Run).down ≡ reply ∷ [] =
     ap (λ (v : WorldData). v.down) ran
@@ -179,7 +179,7 @@ run_one place text queued flying w fit few i =
     record {
       reply = reply;
       front = down;
-      heard = run_heard w.printer.numbered (wire_number place) free text (small_number place few) (omega (arith, i.few));
+      heard = run_heard w.printer.oks.numbered (wire_number place) free text (small_number place few) (omega (arith, i.few));
       runs = ap is_empty i.queue;
       received = record {
         linked = ap (λ (v : WorldData). v.linked) got ∙ open_still;

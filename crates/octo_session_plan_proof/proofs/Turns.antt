@@ -77,7 +77,7 @@ pub at_world : (kind : LinkKind) (now added : List WorldEvent) (past : Option (L
 at_world kind now added past P is so = record {
   now = now ++ added;
   recorded = is;
-  is = subst P (sym (world_of-append kind.slots kind.numbered now added)) so;
+  is = subst P (sym (world_of-append kind.slots kind.oks now added)) so;
 }
 
 -- what the next turn does over a link that is up

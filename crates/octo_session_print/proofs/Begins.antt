@@ -17,6 +17,7 @@ use Rattle.octo_session_print.specs.Printed.{HasPrinted, IsOver}
 use Rattle.octo_session_print.specs.BetweenTurns.{IsDialling}
 use Rattle.octo_session_print.specs.declared.end.PrintEnd.{PrintEnd}
 use Rattle.octo_session_print.specs.declared.end.PrintEnd.TheVariants as end
+use Rattle.octo_session_line_proof.proofs.AllSent.{none_unsent}
 use Rattle.octo_session_line_proof.proofs.Histories.{none_printed}
 use Rattle.octo_session_print.proofs.Printing.{printed_of, part_none}
 use Rattle.octo_session_plan_proof.specs.Progress.{after_select}
@@ -55,7 +56,7 @@ refused kind plan past x line asked limit new =
     record {
       printed = recorded_same past (HasPrinted kind plan how x.sender.acked)
           (subst A (sym (new_acked x new)) (λ before. printed_of kind plan how [] 0 before [] (part_none plan) (λ is. absurd (cc)) (λ count is. absurd (cc))
-          (λ count is. absurd (cc)) (λ all is. absurd (cc)) (λ why is. absurd (cc)) (none_printed kind before [] refl)));
+          (λ count is. absurd (cc)) (λ all is. absurd (cc)) (λ whole. none_unsent 0 []) (λ one. absurd (cc)) (λ why is. absurd (cc)) (none_printed kind before [] refl)));
       ended = λ why is. absurd (cc);
       unsent = λ none. refl;
     }

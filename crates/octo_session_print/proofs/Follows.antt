@@ -24,7 +24,7 @@ use Rattle.octo_session_line_proof.proofs.Turned.{rests_down}
 use Rattle.octo_session_print.specs.Ends.{end_of, desk_after, left_after}
 use Rattle.octo_session_print.specs.Printed.{IsOver}
 use Rattle.octo_session_line_proof.specs.History.{IsMade}
-use Rattle.octo_session_print.specs.BetweenTurns.{IsOnLink, GoesOn}
+use Rattle.octo_session_print.specs.BetweenTurns.{HasSentAll, IsOnLink, GoesOn}
 use Rattle.octo_session_print.specs.declared.end.PrintEnd.{PrintEnd}
 use Rattle.octo_session_print.specs.declared.end.PrintEnd.TheVariants as end
 use Rattle.octo_session_print.proofs.Course.{start_course, left_course}
@@ -89,7 +89,7 @@ desk_made kind issued x d past added made =
     let o = made.opened in
     record {
       once = made.once;
-      opened = record { front = o.front; last = o.last; rest = o.rest; is = o.is; can = o.can; traced = o.traced; open_as = o.open_as; quiet = o.quiet; caused = o.caused };
+      opened = record { front = o.front; last = o.last; rest = o.rest; is = o.is; can = o.can; traced = o.traced; open_as = o.open_as; quiet = o.quiet; caused = o.caused; suits = o.suits };
     }
 
 module _ (kind : LinkKind) (p : PrintData) (port : List ℕ) (first now : Option (List WorldEvent)) (x : SessionData) where
@@ -100,8 +100,8 @@ module _ (kind : LinkKind) (p : PrintData) (port : List ℕ) (first now : Option
     on = record { course = course; cool = l.on.cool; sound = l.on.sound };
     up = l.up;
     listed = l.listed;
-    history = recorded_so first now (λ past added. IsMade kind l.issued x past added) (λ past added. IsMade kind l.issued (record x { desk = d }) past added)
-        l.history (λ past added made. desk_made kind l.issued x d past added made);
+    history = recorded_so first now (λ past added. HasSentAll kind l.issued x past added) (λ past added. HasSentAll kind l.issued (record x { desk = d }) past added)
+        l.history (λ past added so. record { made = desk_made kind l.issued x d past added so.made; sent = so.sent });
     unstarted = unstarted;
   }
 

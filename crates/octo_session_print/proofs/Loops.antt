@@ -1,20 +1,24 @@
 -- What a print between two turns says of the next one, and what it leaves if no turn is left.
-use Rattle.std.proofs.Common.{◌≡◌, ◌⊎◌, inl, inr, ℕ, Bool, true, false, List, [], ◌++◌, Option, sym, ◌∙◌, ap, subst}
+use Rattle.std.proofs.Common.{◌≡◌, ◌⊎◌, inl, inr, ℕ, Bool, true, false, List, [], ◌++◌, Option, sym, ◌∙◌, ap, subst, append_assoc, arith}
 use Rattle.printer_model.specs.declared.event.WorldEvent.{WorldEvent}
+use Rattle.printer_model.specs.declared.event.WorldEvent.TheVariants.{Closed}
 use Rattle.printer_model.specs.Executed.{opens}
+use Rattle.printer_model.specs.World.{WorldData, world_from}
+use Rattle.printer_model.proofs.Laws.{happens}
 use Rattle.printer_link.specs.Link.{LinkKind, Recorded, Grows, IsHangUp, world_in}
+use Rattle.printer_link.specs.Suits.{SuitsAs}
 use Rattle.printer_link.proofs.Grown.{recorded_then, recorded_so}
 use Rattle.octo_session.specs.Data.{SessionData, doing, port_of}
 use Rattle.octo_session.specs.declared.found.Doing.TheVariants.{Dialling}
-use Rattle.octo_session_line_proof.proofs.Turned.{dials_down}
+use Rattle.octo_session_line_proof.proofs.Turned.{dials_down, world_then}
 use Rattle.octo_session_plan_proof.specs.Plan.{PrintData, print_commands}
 use Rattle.octo_session.specs.Plan.{plan}
 use Rattle.octo_session_plan_proof.proofs.Results.{underway-part}
 use Rattle.octo_session_print.specs.Printed.{HasPrinted, IsOver}
-use Rattle.octo_session_line_proof.specs.History.{IsMade}
-use Rattle.octo_session_print.specs.BetweenTurns.{IsDialling, IsOnLink, IsBetweenTurns}
+use Rattle.octo_session_print.specs.BetweenTurns.{HasSentAll, IsDialling, IsOnLink, IsBetweenTurns}
 use Rattle.octo_session_print.specs.declared.end.PrintEnd.{PrintEnd}
 use Rattle.octo_session_print.specs.declared.end.PrintEnd.TheVariants as end
+use Rattle.octo_session_line_proof.proofs.AllSent.{none_unsent, all_sent_later}
 use Rattle.octo_session_line_proof.proofs.Histories.{none_printed}
 use Rattle.octo_session_print.proofs.Printing.{printed_of, part_none}
 use Rattle.octo_session_line_proof.proofs.Turns.{hung_printed}
@@ -30,6 +34,16 @@ turns_of _ = 0
 pub same_turns : (a b : ℕ) → end.TurnsUsed a ≡ end.TurnsUsed b → a ≡ b
 unfolding turns_of
 same_turns a b is = ap turns_of is
+
+-- a link that is hung up is closed
+hung_shut : (kind : LinkKind) (past added more : List WorldEvent) → IsHangUp true (world_in kind (past ++ added)) more →
+    (world_in kind (past ++ (added ++ more))).linked ≡ false
+hung_shut kind past added more hung =
+    let w : WorldData = world_in kind (past ++ added) in
+    ap (λ (es : List WorldEvent). (world_in kind es).linked) (sym (append_assoc past added more))
+    ∙ ap (λ (v : WorldData). v.linked) (world_then kind (past ++ added) more)
+    ∙ ap (λ (es : List WorldEvent). (world_from w es).linked) hung.0
+    ∙ ap (λ (v : WorldData). v.linked) (happens w Closed hung.1)
 
 module _ (count : ℕ) (kind : LinkKind) (p : PrintData) (port : List ℕ) (first now : Option (List WorldEvent)) (x : SessionData) where
   pub under : IsAfter count kind p port first now x → IsBetweenTurns kind p port first now x
@@ -70,7 +84,8 @@ module _ (count : ℕ) (kind : LinkKind) (p : PrintData) (port : List ℕ) (firs
       let printed : (past added : List WorldEvent) → added ≡ [] → P past added =
       λ past added none. (let A : ℕ → Type 0 = λ n. HasPrinted kind whole (end.TurnsUsed turns) n past added in
       subst A (sym dial.none_acked) (printed_of kind whole (end.TurnsUsed turns) [] 0 past added (part_none whole) (λ is. absurd (cc)) (λ count is. absurd (cc))
-      (λ count is. absurd (cc)) (λ all is. absurd (cc)) (λ why is. absurd (cc)) (none_printed kind past added (ap opens none))))
+      (λ count is. absurd (cc)) (λ all is. absurd (cc)) (λ whole_print. none_unsent 0 added)
+      (λ one. absurd (omega (arith, one, ap opens none))) (λ why is. absurd (cc)) (none_printed kind past added (ap opens none))))
       in
       record {
         printed = subst F dial.nothing (recorded_so now last (λ past added. added ≡ []) P (subst B (dials_down x dial.dials) hung) printed);
@@ -81,13 +96,17 @@ module _ (count : ℕ) (kind : LinkKind) (p : PrintData) (port : List ℕ) (firs
       let whole : List (List ℕ) = plan p.scripts (print_commands p) in
       let B : Bool → Type 0 = λ b. Grows kind now last (IsHangUp b) in
       record {
-        printed = recorded_then first now last (λ past added. IsMade kind l.issued x past added)
+        printed = recorded_then first now last (λ past added. HasSentAll kind l.issued x past added)
             (λ past added. IsHangUp true (world_in kind past) added)
             (λ past added. HasPrinted kind whole (end.TurnsUsed turns) x.sender.acked past added)
             l.history (subst B l.up hung)
-            (λ past added more made hangs. printed_of kind whole (end.TurnsUsed turns) l.issued x.sender.acked past (added ++ more) (underway-part p x.desk l.issued l.on.course) (λ is. absurd (cc)) (λ count is. absurd (cc))
-            (λ count is. absurd (cc)) (λ all is. absurd (cc)) (λ why is. absurd (cc))
-            (hung_printed kind l.issued x past added more made hangs));
+            (λ past added more so hangs. printed_of kind whole (end.TurnsUsed turns) l.issued x.sender.acked past (added ++ more) (underway-part p x.desk l.issued l.on.course) (λ is. absurd (cc)) (λ count is. absurd (cc))
+            (λ count is. absurd (cc)) (λ all is. absurd (cc)) (λ whole_print. all_sent_later l.issued x.sender.acked x.sender.acked added more (omega arith) so.sent)
+            (λ one. hung_shut kind past added more hangs) (λ why is. absurd (cc)) (hung_printed kind l.issued x past added more so.made hangs));
         ended = λ why is. absurd (cc);
         unsent = λ none. absurd none;
       }
+
+-- a link suits a sender while its kind stays
+pub suits_still : (before now : LinkKind) (first : Option (List WorldEvent)) → now ≡ before → SuitsAs false first before.oks → SuitsAs false first now.oks
+suits_still before now first same suits = (let K : LinkKind → Type 0 = λ k. SuitsAs false first k.oks in subst K (sym same) suits)

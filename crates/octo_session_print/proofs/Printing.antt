@@ -1,11 +1,12 @@
 -- What a print has made of a history, by its plan and its end.
-use Rattle.std.proofs.Common.{◌≡◌, ◌⊎◌, inl, inr, ℕ, suc, ◌≤◌, List, [], ◌∷◌, ◌++◌, length, refl, sym, ◌∙◌, ap, arith}
+use Rattle.std.proofs.Common.{◌≡◌, ◌≢◌, ◌⊎◌, inl, inr, ℕ, suc, ◌≤◌, false, List, [], ◌∷◌, ◌++◌, length, refl, sym, ◌∙◌, ap, arith}
 use Rattle.std.specs.Prelude.{◌<◌, Option, Some, None}
 use Rattle.printer_model.specs.Executed.{opens, executed, logged_from}
 use Rattle.printer_model.specs.declared.event.WorldEvent.{WorldEvent}
-use Rattle.printer_link.specs.Link.{LinkKind}
+use Rattle.printer_link.specs.Link.{LinkKind, world_in}
 use Rattle.octo_session.specs.Plan.{Weave, empty, WeavesPart}
 use Rattle.octo_session.specs.Data.{SessionData}
+use Rattle.octo_session_line_proof.specs.AllSent.{AreAllSent}
 use Rattle.octo_session_line_proof.specs.History.{IsMade}
 use Rattle.octo_session.specs.Tied.{HasIssued}
 use Rattle.send_window.specs.Patience.{IsUnanswered, IsMissing}
@@ -26,21 +27,24 @@ pub printed_of : (kind : LinkKind) (plan : List (List ℕ)) (how : PrintEnd) (is
     ((count : ℕ) → how ≡ end.Ended (NoAnswer count) → (count ≡ 5) × ((issued ≡ []) ⊎ (acked < length issued))) →
     ((count : ℕ) → how ≡ end.Ended (LostOk count) → (count ≡ 20) × (acked < length issued)) →
     ((all : ℕ) → how ≡ end.Ended (NumbersUsed all) → (all ≡ most_lines) × (acked ≡ most_lines)) →
-    ((why : SessionEnd) → how ≡ end.Ended why → opens added ≡ 1) → HasIssued kind issued acked past added →
-    HasPrinted kind plan how acked past added
-printed_of kind plan how issued acked past added part all unanswered missing all_used opened h = record {
+    (how ≢ end.LinkFailed → AreAllSent issued acked added) → (opens added ≡ 1 → (world_in kind (past ++ added)).linked ≡ false) →
+    ((why : SessionEnd) → how ≡ end.Ended why → opens added ≡ 1) →
+    HasIssued kind issued acked past added → HasPrinted kind plan how acked past added
+printed_of kind plan how issued acked past added part all unanswered missing all_used sent shut opened h = record {
   issued = issued;
   of_plan = part;
   history = h;
   done = λ is. (let whole = all is in record {
     woven = whole.0;
     all_executed = h.tied.executed_first
-        ∙ ap (logged_from 1) (take_all (length (executed kind.slots kind.numbered (past ++ added) (suc (opens past)))) issued (omega (arith, whole.1, h.tied.acked_run)));
+        ∙ ap (logged_from 1) (take_all (length (executed kind.slots kind.oks (past ++ added) (suc (opens past)))) issued (omega (arith, whole.1, h.tied.acked_run)));
     all_acked = whole.1;
   });
   unanswered = unanswered;
   missing = missing;
   all_used = all_used;
+  sent = sent;
+  shut = shut;
   opened = opened;
 }
 

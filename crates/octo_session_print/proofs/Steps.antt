@@ -1,5 +1,5 @@
 -- How a turn leads a print on.
-use Rattle.std.proofs.Common.{◌≡◌, ◌↔◌, ◌⊎◌, inl, inr, ℕ, ◌≤◌, Bool, true, false, List, [], refl, sym, ◌∙◌, ap, subst, arith}
+use Rattle.std.proofs.Common.{◌≡◌, ◌≢◌, ◌↔◌, ◌⊎◌, inl, inr, ℕ, ◌≤◌, Bool, true, false, List, [], refl, sym, ◌∙◌, ap, subst, arith}
 use Rattle.std.specs.Prelude.{Option, Some, ◌&&◌, length}
 use Rattle.job_desk.specs.Data.{Data, Line}
 use Rattle.job_desk.specs.declared.state.State.TheVariants.{Offline, Operational}
@@ -10,7 +10,8 @@ use Rattle.send_window.specs.declared.session_end.SessionEnd.TheVariants.{NoAnsw
 use Rattle.print_queue.specs.declared.ending.Ending.{Ending}
 use Rattle.printer_model.specs.declared.event.WorldEvent.{WorldEvent}
 use Rattle.printer_link.specs.Link.{LinkKind, Recorded, world_in}
-use Rattle.printer_link.proofs.Grown.{recorded_then, recorded_so}
+use Rattle.printer_link.specs.Suits.{SuitsAs}
+use Rattle.printer_link.proofs.Grown.{recorded_then, recorded_so, recorded_if}
 use Rattle.send_window.specs.Data.{SenderData, IsSound}
 use Rattle.octo_session.specs.Data.{SessionData, IsSession, doing, port_of}
 use Rattle.octo_session.specs.DeskTurn.{IsNoted}
@@ -33,11 +34,14 @@ use Rattle.octo_session_line_proof.proofs.Recorded.{IsKept, turn_end_caused}
 use Rattle.octo_session_line_proof.proofs.Turned.{IsTurned, dials_down, rests_down, opens_dialling}
 use Rattle.octo_session_print.specs.Ends.{IsUnsent, end_of}
 use Rattle.octo_session_print.specs.Printed.{HasPrinted, IsOver}
+use Rattle.octo_session_line_proof.specs.AllSent.{AreAllSent}
 use Rattle.octo_session_line_proof.specs.History.{IsMade}
 use Rattle.send_window.specs.Patience.{FitsEnd}
-use Rattle.octo_session_print.specs.BetweenTurns.{IsDialling, IsOnLink, IsBetweenTurns, GoesOn}
+use Rattle.octo_session_print.specs.BetweenTurns.{HasSentAll, IsDialling, IsOnLink, IsBetweenTurns, GoesOn}
 use Rattle.octo_session_print.specs.declared.end.PrintEnd.{PrintEnd}
 use Rattle.octo_session_print.specs.declared.end.PrintEnd.TheVariants as end
+use Rattle.octo_session_line_proof.proofs.AllSent.{none_unsent}
+use Rattle.octo_session_line_proof.proofs.Sent.{made_sends}
 use Rattle.octo_session_line_proof.proofs.Histories.{none_printed, nothing_added}
 use Rattle.octo_session_print.proofs.Printing.{printed_of, unanswered_of, missing_of, part_none}
 use Rattle.octo_session_line_proof.proofs.Turns.{ports_dialling, turned_all, made_on, made_now, none_made, none_added, made_printed}
@@ -109,7 +113,7 @@ module _ (moment : ℕ) (kind : LinkKind) (old_past new_past : Option (List Worl
       let A : ℕ → Type 0 = λ n. HasPrinted kind whole how n past added in
       subst A (sym (ap (λ (s : SenderData). s.acked) none.1 ∙ d.none_acked))
       (printed_of kind whole how [] 0 past added (part_none whole) (λ is. absurd (undone is)) (λ count is. absurd (unended (NoAnswer count) is)) (λ count is. absurd (unended (LostOk count) is)) (λ all is. absurd (unended (NumbersUsed all) is))
-      (λ why is. absurd (unended why is)) (none_printed kind past added none.0)))
+      (λ whole_turn. none_unsent 0 added) (λ one. absurd (omega (arith, one, none.0))) (λ why is. absurd (unended why is)) (none_printed kind past added none.0)))
       in
       record {
         printed = subst F d.nothing (recorded_so old_past new_past
@@ -122,10 +126,10 @@ module _ (moment : ℕ) (kind : LinkKind) (old_past new_past : Option (List Worl
       }
 
   -- the turn makes the link
-  dial_made : IsDialling p port first old_past old → fact_of turned.note ≡ fact.Opened → IsOnLink kind p port first new_past mid
-  dial_made d is =
+  dial_made : SuitsAs false first kind.oks → IsDialling p port first old_past old → fact_of turned.note ≡ fact.Opened → IsOnLink kind p port first new_past mid
+  dial_made suits d is =
       let found : h.turn.found ≡ fact.Opened = sym its_fact ∙ is in
-      let P : List WorldEvent → List WorldEvent → Type 0 = λ past added. IsMade kind [] mid past added in
+      let P : List WorldEvent → List WorldEvent → Type 0 = λ past added. HasSentAll kind [] mid past added in
       let F : Option (List WorldEvent) → Type 0 = λ f. Recorded f new_past P in
       let I : LinkFact → Type 0 = λ f. IsUnderway p mid.desk (issued_in f texts []) in
       let opened_course : IsUnderway p mid.desk [] = subst I found (underway [] d.on.course) in
@@ -134,9 +138,12 @@ module _ (moment : ℕ) (kind : LinkKind) (old_past new_past : Option (List Worl
         on = record { course = opened_course; cool = d.on.cool; sound = sound d.on.sound };
         up = h.kept.up ∙ ap (λ (f : LinkFact). up_after f old.up) is;
         listed = listed_by (kind.listed port) refl;
-        history = subst F d.nothing (recorded_so old_past new_past
+        history = subst F d.nothing (recorded_if old_past new_past
             (λ past added. IsTurned moment kind old mid h.turn.got h.turn.found texts (world_in kind past) added) P all
-            (λ past added t. made_now moment kind old mid h.turn.got h.turn.found texts past added found d.on.sound d.dials t));
+            (λ past added so t. record {
+              made = made_now moment kind old mid h.turn.got h.turn.found texts past added found d.on.sound (suits past (sym d.nothing ∙ so)) d.dials t;
+              sent = none_unsent mid.sender.acked added;
+            }));
         unstarted = λ unready. h.greatest ∙ d.unstarted;
       }
     where
@@ -153,14 +160,14 @@ module _ (moment : ℕ) (kind : LinkKind) (old_past new_past : Option (List Worl
       let no : true ≡ false = sym yes ∙ none in
       absurd (cc)
 
-  dial_goes : IsDialling p port first old_past old → (f : LinkFact) → fact_of turned.note ≡ f → GoesOn kind p port (end_of f) first new_past mid
-  dial_goes d fact.Opened is = dial_made d is
-  dial_goes d fact.NoPort is = dial_over end.NoPort d (λ opens. (let no : fact.NoPort ≡ fact.Opened = sym is ∙ its_fact ∙ opens in absurd (cc))) (λ e. absurd (cc)) (λ why e. absurd (cc)) (λ none. sym its_fact ∙ is)
-  dial_goes d fact.Failed is = dial_over end.LinkFailed d (λ opens. (let no : fact.Failed ≡ fact.Opened = sym is ∙ its_fact ∙ opens in absurd (cc))) (λ e. absurd (cc)) (λ why e. absurd (cc)) (λ none. absurd none)
-  dial_goes d fact.Quiet is = absurd (can_not d fact.Quiet is refl)
-  dial_goes d fact.Ready is = absurd (can_not d fact.Ready is refl)
-  dial_goes d fact.Closed is = absurd (can_not d fact.Closed is refl)
-  dial_goes d (fact.Ended why) is = absurd (can_not d (fact.Ended why) is refl)
+  dial_goes : SuitsAs false first kind.oks → IsDialling p port first old_past old → (f : LinkFact) → fact_of turned.note ≡ f → GoesOn kind p port (end_of f) first new_past mid
+  dial_goes suits d fact.Opened is = dial_made suits d is
+  dial_goes suits d fact.NoPort is = dial_over end.NoPort d (λ opens. (let no : fact.NoPort ≡ fact.Opened = sym is ∙ its_fact ∙ opens in absurd (cc))) (λ e. absurd (cc)) (λ why e. absurd (cc)) (λ none. sym its_fact ∙ is)
+  dial_goes suits d fact.Failed is = dial_over end.LinkFailed d (λ opens. (let no : fact.Failed ≡ fact.Opened = sym is ∙ its_fact ∙ opens in absurd (cc))) (λ e. absurd (cc)) (λ why e. absurd (cc)) (λ none. absurd none)
+  dial_goes suits d fact.Quiet is = absurd (can_not d fact.Quiet is refl)
+  dial_goes suits d fact.Ready is = absurd (can_not d fact.Ready is refl)
+  dial_goes suits d fact.Closed is = absurd (can_not d fact.Closed is refl)
+  dial_goes suits d (fact.Ended why) is = absurd (can_not d (fact.Ended why) is refl)
 
   -- the link was made in a turn before
   up_clash : {X : Type 0} → IsOnLink kind p port first old_past old → old.up ≡ false → X
@@ -176,20 +183,26 @@ module _ (moment : ℕ) (kind : LinkKind) (old_past new_past : Option (List Worl
       let F : LinkFact → Type 0 = λ f. can_find (doing old) f ≡ true in
       up_clash l (dials_down old (ports_dialling (doing old) (subst F is h.kept.finds)))
 
-  talk_made : (l : IsOnLink kind p port first old_past old) →
-      Recorded first new_past (λ past added. IsMade kind (issued_in h.turn.found texts l.issued) mid past added)
-  talk_made l =
-      recorded_then first old_past new_past (λ past added. IsMade kind l.issued old past added)
+  -- what the turn makes of the history, and that all is sent if no call failed
+  talk_made : (Whole : Type 0) (l : IsOnLink kind p port first old_past old) → (Whole → h.turn.found ≡ fact.Failed → ⊥) →
+      Recorded first new_past (λ past added. IsMade kind (issued_in h.turn.found texts l.issued) mid past added
+      × (Whole → AreAllSent (issued_in h.turn.found texts l.issued) mid.sender.acked added))
+  talk_made Whole l whole_turn =
+      recorded_then first old_past new_past (λ past added. HasSentAll kind l.issued old past added)
       (λ past added. IsTurned moment kind old mid h.turn.got h.turn.found texts (world_in kind past) added)
-      (λ past added. IsMade kind (issued_in h.turn.found texts l.issued) mid past added)
+      (λ past added. IsMade kind (issued_in h.turn.found texts l.issued) mid past added
+      × (Whole → AreAllSent (issued_in h.turn.found texts l.issued) mid.sender.acked added))
       l.history all
-      (λ past added more made t. made_on moment kind old mid h.turn.got h.turn.found texts l.issued past added more (talks l) made t)
+      (λ past added more so t. (
+        made_on moment kind old mid h.turn.got h.turn.found texts l.issued past added more (talks l) so.made t,
+        λ whole. made_sends moment kind old mid h.turn.got h.turn.found texts l.issued past added more (whole_turn whole) (talks l) so.made so.sent t,
+      ))
 
   talk_linked : (l : IsOnLink kind p port first old_past old) → LinkedAs kind old_past l.issued old
   talk_linked l now is =
       let grew = l.history.grew now is in
       let L : List WorldEvent → Type 0 = λ es. IsLinked kind l.issued old es in
-      subst L (sym grew.3) (opened grew.4.opened)
+      subst L (sym grew.3) (opened grew.4.made.opened)
 
   -- a turn that ends the session ends its sender so
   talk_ended : (why : SessionEnd) → h.turn.found ≡ fact.Ended why → mid.sender.ended ≡ Some why
@@ -214,17 +227,19 @@ module _ (moment : ℕ) (kind : LinkKind) (old_past new_past : Option (List Worl
       )
 
   talk_over : (how : PrintEnd) → IsOnLink kind p port first old_past old → (how ≡ end.Done → h.turn.found ≡ fact.Closed) →
-      ((why : SessionEnd) → how ≡ end.Ended why → fact_of turned.note ≡ fact.Ended why) → (IsUnsent how → ⊥) → IsOver kind whole how first new_past mid
-  talk_over how l closed ends sent =
+      ((why : SessionEnd) → how ≡ end.Ended why → fact_of turned.note ≡ fact.Ended why) → (IsUnsent how → ⊥) → (how ≢ end.LinkFailed → h.turn.found ≡ fact.Failed → ⊥) →
+      mid.up ≡ false → IsOver kind whole how first new_past mid
+  talk_over how l closed ends sent whole_turn down =
       let now : List (List ℕ) = issued_in h.turn.found texts l.issued in
       record {
-        printed = recorded_so first new_past (λ past added. IsMade kind now mid past added)
-            (λ past added. HasPrinted kind whole how mid.sender.acked past added) (talk_made l)
-            (λ past added made. printed_of kind whole how now mid.sender.acked past added (underway-part p mid.desk now (underway l.issued l.on.course))
+        printed = recorded_so first new_past (λ past added. IsMade kind now mid past added × (how ≢ end.LinkFailed → AreAllSent now mid.sender.acked added))
+            (λ past added. HasPrinted kind whole how mid.sender.acked past added) (talk_made (how ≢ end.LinkFailed) l whole_turn)
+            (λ past added so. printed_of kind whole how now mid.sender.acked past added (underway-part p mid.desk now (underway l.issued l.on.course))
             (λ done. talk_whole l (closed done))
-            (λ count is. (let fits = h.fits (NoAnswer count) (ends (NoAnswer count) is) in (fits.0, unanswered_of kind now mid past added made fits.1)))
-            (λ count is. (let fits = h.fits (LostOk count) (ends (LostOk count) is) in (fits.0, missing_of kind now mid past added made fits.1)))
-            (λ all is. h.fits (NumbersUsed all) (ends (NumbersUsed all) is)) (λ why is. made.once) (made_printed kind now mid past added made));
+            (λ count is. (let fits = h.fits (NoAnswer count) (ends (NoAnswer count) is) in (fits.0, unanswered_of kind now mid past added so.0 fits.1)))
+            (λ count is. (let fits = h.fits (LostOk count) (ends (LostOk count) is) in (fits.0, missing_of kind now mid past added so.0 fits.1)))
+            (λ all is. h.fits (NumbersUsed all) (ends (NumbersUsed all) is)) so.1 (λ one. so.0.opened.open_as ∙ down) (λ why is. so.0.once)
+            (made_printed kind now mid past added so.0));
         ended = λ why is. record {
           its_end = talk_ended why (sym its_fact ∙ ends why is);
           fits = h.fits why (ends why is);
@@ -233,13 +248,17 @@ module _ (moment : ℕ) (kind : LinkKind) (old_past new_past : Option (List Worl
         unsent = λ none. absurd (sent none);
       }
 
-  talk_on : (l : IsOnLink kind p port first old_past old) → mid.up ≡ true → IsOnLink kind p port first new_past mid
-  talk_on l up = record {
+  talk_on : (l : IsOnLink kind p port first old_past old) → mid.up ≡ true → (h.turn.found ≡ fact.Failed → ⊥) → IsOnLink kind p port first new_past mid
+  talk_on l up whole_turn = record {
     issued = issued_in h.turn.found texts l.issued;
     on = record { course = (underway l.issued l.on.course); cool = l.on.cool; sound = sound l.on.sound };
     up = up;
     listed = l.listed;
-    history = talk_made l;
+    history = recorded_so first new_past
+        (λ past added. IsMade kind (issued_in h.turn.found texts l.issued) mid past added
+        × (Unit {0} → AreAllSent (issued_in h.turn.found texts l.issued) mid.sender.acked added))
+        (λ past added. HasSentAll kind (issued_in h.turn.found texts l.issued) mid past added) (talk_made (Unit {0}) l (λ _. whole_turn))
+        (λ past added so. record { made = so.0; sent = so.1 tt });
     unstarted = λ unready. h.greatest ∙ l.unstarted (was_unready (fact_of turned.note) refl (sym h.ready_is ∙ unready));
   }
     where
@@ -254,20 +273,27 @@ module _ (moment : ℕ) (kind : LinkKind) (old_past new_past : Option (List Worl
       was_unready fact.Failed is unready = sym (ap (λ (f : LinkFact). ready_after f old.sender.ready) is) ∙ unready
       was_unready (fact.Ended why) is unready = sym (ap (λ (f : LinkFact). ready_after f old.sender.ready) is) ∙ unready
 
+  -- no call failed in a turn that found something else
+  unbroken : (f : LinkFact) → fact_of turned.note ≡ f → (f ≡ fact.Failed → ⊥) → h.turn.found ≡ fact.Failed → ⊥
+  unbroken f is other failed = other (sym is ∙ its_fact ∙ failed)
+
   talk_goes : IsOnLink kind p port first old_past old → (f : LinkFact) → fact_of turned.note ≡ f → GoesOn kind p port (end_of f) first new_past mid
   unfolding why_of
-  talk_goes l fact.Quiet is = talk_on l (h.kept.up ∙ ap (λ (f : LinkFact). up_after f old.up) is ∙ l.up)
-  talk_goes l fact.Ready is = talk_on l (h.kept.up ∙ ap (λ (f : LinkFact). up_after f old.up) is)
+  talk_goes l fact.Quiet is = talk_on l (h.kept.up ∙ ap (λ (f : LinkFact). up_after f old.up) is ∙ l.up) (unbroken fact.Quiet is (λ e. absurd (cc)))
+  talk_goes l fact.Ready is = talk_on l (h.kept.up ∙ ap (λ (f : LinkFact). up_after f old.up) is) (unbroken fact.Ready is (λ e. absurd (cc)))
   talk_goes l fact.Opened is = absurd (talks l (sym its_fact ∙ is))
-  talk_goes l fact.Closed is = talk_over end.Done l (λ e. sym its_fact ∙ is) (λ why e. absurd (cc)) (λ none. none)
+  talk_goes l fact.Closed is = talk_over end.Done l (λ e. sym its_fact ∙ is) (λ why e. absurd (cc)) (λ none. none) (λ whole. unbroken fact.Closed is (λ e. absurd (cc)))
+      (h.kept.up ∙ ap (λ (f : LinkFact). up_after f old.up) is)
   talk_goes l fact.NoPort is = absurd (listens_not l is)
-  talk_goes l fact.Failed is = talk_over end.LinkFailed l (λ e. absurd (cc)) (λ why e. absurd (cc)) (λ none. none)
+  talk_goes l fact.Failed is = talk_over end.LinkFailed l (λ e. absurd (cc)) (λ why e. absurd (cc)) (λ none. none) (λ whole e. whole refl)
+      (h.kept.up ∙ ap (λ (f : LinkFact). up_after f old.up) is)
   talk_goes l (fact.Ended ends) is = talk_over (end.Ended ends) l (λ e. absurd (cc)) (λ why e. is ∙ ap fact.Ended (ap (why_of ends) e)) (λ none. none)
+      (λ whole. unbroken (fact.Ended ends) is (λ e. absurd (cc))) (h.kept.up ∙ ap (λ (f : LinkFact). up_after f old.up) is)
 
   -- a turn leads a print on, or ends it
-  pub turn_goes : IsBetweenTurns kind p port first old_past old → GoesOn kind p port (end_of (fact_of turned.note)) first new_past mid
-  turn_goes (inl d) = dial_goes d (fact_of turned.note) refl
-  turn_goes (inr l) = talk_goes l (fact_of turned.note) refl
+  pub turn_goes : SuitsAs false first kind.oks → IsBetweenTurns kind p port first old_past old → GoesOn kind p port (end_of (fact_of turned.note)) first new_past mid
+  turn_goes suits (inl d) = dial_goes suits d (fact_of turned.note) refl
+  turn_goes suits (inr l) = talk_goes l (fact_of turned.note) refl
 
   -- what its ending says of the desk
   pub turn_free : IsBetweenTurns kind p port first old_past old → fact_of turned.note ≡ fact.Quiet → (x : Ending) → turned.ending ≡ Some x →

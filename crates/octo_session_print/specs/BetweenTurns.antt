@@ -9,6 +9,7 @@ use Rattle.temp_rules.specs.Hot.{first_hot_of}
 use Rattle.octo_session_plan_proof.specs.Plan.{PrintData, print_commands}
 use Rattle.octo_session.specs.Plan.{plan}
 use Rattle.octo_session_plan_proof.specs.Underway.{IsUnderway}
+use Rattle.octo_session_line_proof.specs.AllSent.{AreAllSent}
 use Rattle.octo_session_line_proof.specs.History.{IsMade}
 use Rattle.octo_session_print.specs.Printed.{IsOver}
 use Rattle.octo_session_print.specs.declared.end.PrintEnd.{PrintEnd}
@@ -34,13 +35,18 @@ pub record HasBegun (now : Option (List WorldEvent)) (x : SessionData) : Type 0 
   pub print : PrintData
   pub dialling : IsDialling print (port_of x.desk) now now x
 
+-- one link was made, and each line issued since was sent or is acknowledged
+pub record HasSentAll (kind : LinkKind) (issued : List (List ℕ)) (x : SessionData) (past added : List WorldEvent) : Type 0 where
+  pub made : IsMade kind issued x past added
+  pub sent : AreAllSent issued x.sender.acked added
+
 -- the next turn uses the link or hangs up
 pub record IsOnLink (kind : LinkKind) (p : PrintData) (port : List ℕ) (first now : Option (List WorldEvent)) (x : SessionData) : Type 0 where
   pub issued : List (List ℕ)
   pub on : IsOnCourse p issued x
   pub up : x.up ≡ true
   pub listed : kind.listed port ≡ true
-  pub history : Recorded first now (λ past added. IsMade kind issued x past added)
+  pub history : Recorded first now (λ past added. HasSentAll kind issued x past added)
   pub unstarted : x.sender.ready ≡ false → x.desk.greatest ≡ 0
 
 -- a print is between two turns

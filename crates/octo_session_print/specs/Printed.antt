@@ -1,8 +1,8 @@
 -- What a print has made of the history of its link.
-use Rattle.std.specs.Prelude.{◌≡◌, ◌⊎◌, ◌<◌, ℕ, suc, List, [], ◌++◌, length, Option, Some}
+use Rattle.std.specs.Prelude.{◌≡◌, ◌≢◌, ◌⊎◌, ◌<◌, ℕ, suc, false, List, [], ◌++◌, length, Option, Some}
 use Rattle.printer_model.specs.Executed.{opens, executed, logged_from}
 use Rattle.printer_model.specs.declared.event.WorldEvent.{WorldEvent}
-use Rattle.printer_link.specs.Link.{LinkKind, Recorded}
+use Rattle.printer_link.specs.Link.{LinkKind, Recorded, world_in}
 use Rattle.send_window.specs.declared.session_end.SessionEnd.{SessionEnd}
 use Rattle.send_window.specs.declared.session_end.SessionEnd.TheVariants.{NoAnswer, LostOk, NumbersUsed}
 use Rattle.send_window.specs.Data.{SenderData, most_lines, most_silent, most_told}
@@ -10,6 +10,7 @@ use Rattle.octo_session.specs.Data.{SessionData}
 use Rattle.octo_session.specs.Causes.{EndCausedAs}
 use Rattle.octo_session.specs.Plan.{Weave, WeavesPart}
 use Rattle.octo_session.specs.Tied.{HasIssued}
+use Rattle.octo_session_line_proof.specs.AllSent.{AreAllSent}
 use Rattle.send_window.specs.Patience.{FitsEnd}
 use Rattle.octo_session_print.specs.Ends.{IsUnsent}
 use Rattle.octo_session_print.specs.declared.end.PrintEnd.{PrintEnd}
@@ -18,7 +19,7 @@ use Rattle.octo_session_print.specs.declared.end.PrintEnd.TheVariants as end
 -- the whole plan was issued, and all of it was executed and acknowledged
 pub record IsWholePrint (kind : LinkKind) (plan issued : List (List ℕ)) (acked : ℕ) (past added : List WorldEvent) : Type 0 where
   pub woven : Weave issued plan
-  pub all_executed : executed kind.slots kind.numbered (past ++ added) (suc (opens past)) ≡ logged_from 1 issued
+  pub all_executed : executed kind.slots kind.oks (past ++ added) (suc (opens past)) ≡ logged_from 1 issued
   pub all_acked : acked ≡ length issued
 
 -- what a print of this plan that ended so has made of a history
@@ -35,6 +36,10 @@ pub record HasPrinted (kind : LinkKind) (plan : List (List ℕ)) (how : PrintEnd
   pub missing : (count : ℕ) → how ≡ end.Ended (LostOk count) → (count ≡ most_told) × (acked < length issued)
   -- one whose session used all its numbers names `most_lines`, and that many lines are acknowledged
   pub all_used : (all : ℕ) → how ≡ end.Ended (NumbersUsed all) → (all ≡ most_lines) × (acked ≡ most_lines)
+  -- unless a call of the link failed, each issued line was sent or is acknowledged
+  pub sent : how ≢ end.LinkFailed → AreAllSent issued acked added
+  -- the session that it opened is closed
+  pub shut : opens added ≡ 1 → (world_in kind (past ++ added)).linked ≡ false
   -- a session that ended is the one that the print opened
   pub opened : (why : SessionEnd) → how ≡ end.Ended why → opens added ≡ 1
 

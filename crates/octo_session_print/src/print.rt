@@ -11,6 +11,7 @@ ghost use Rattle.send_window.specs.declared.session_end.SessionEnd.TheVariants.{
 ghost use Rattle.send_window.specs.Data.{most_lines, most_silent, most_told};
 ghost use Rattle.send_window.specs.Hearing.{later};
 ghost use Rattle.printer_link.specs.Link.{Recorded, RoseBy};
+ghost use Rattle.printer_link.specs.Suits.{SuitsAs};
 ghost use Rattle.printer_model.specs.declared.event.WorldEvent.{WorldEvent};
 ghost use Rattle.temp_rules.specs.Hot.{first_hot_of};
 ghost use Rattle.octo_session.specs.Data.{IsSession, doing, port_of};
@@ -58,6 +59,7 @@ pub fn run_print<L: Link, T: Clock>(
 ) -> PrintEnd
     requires new { IsNew session.old }
     requires down { L.up link.old ≡ false }
+    requires suits { SuitsAs false (L.past link.old) (L.kind link.old).oks }
 
     // If the link records its history: a prefix of the plan was issued, with `M105` put in, and a prefix of that was executed, in one
     // session at most. Each line sent in it is the hello or wasn't acknowledged then. All was executed if the print is done.
@@ -128,6 +130,7 @@ fn make_turns<L: Link, T: Clock>(
 ) -> PrintEnd
     requires as_up { L.up link.old ≡ session.old.up }
     requires begins { HasBegun (L.past link.old) session.old }
+    requires suits { SuitsAs false (L.past link.old) (L.kind link.old).oks }
     requires on_time { IsOnTime (T.moment clock.old) (T.moment clock.old) 0
         session.old.sender.limit session.old.sender }
 
@@ -181,7 +184,7 @@ fn make_turn<L: Link, T: Clock>(
 
     // Whether the print goes on.
     ensures goes { (p : PrintData) (port : List ℕ) (first : Option (List WorldEvent)) (limit : ℕ)
-        → IsPatient 0 limit session.old.sender
+        → IsPatient 0 limit session.old.sender → SuitsAs false first (L.kind link.old).oks
         → IsBetweenTurns (L.kind link.old) p port first (L.past link.old) session.old
         → GoesOn (L.kind link.old) p port result first (L.past link.new) session.new }
     ensures no_port { (result ≡ Some end.NoPort) ↔ ((doing session.old ≡ now_doing.Dialling)

@@ -409,6 +409,15 @@ fn longest_script(rt: HostRuntime) -> Result<(), Fail> {
     Ok(())
 }
 
+// A copy has the lines of each script.
+#[test]
+fn copied_scripts(rt: HostRuntime) -> Result<(), Fail> {
+    let copy = with_longest_script(&rt, rt.alloc()).copy(rt.alloc())?;
+    assert_eq!(rt; copy.count(Point::Done), 64);
+    assert_eq!(rt; copy.count(Point::Paused), 0);
+    Ok(())
+}
+
 // Each call that takes memory returns its value.
 #[test]
 fn ample(rt: HostRuntime) -> Result<(), Fail> {

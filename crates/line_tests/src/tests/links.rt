@@ -62,12 +62,15 @@ struct Faults {
     fates: &'static [Fate],
     fail_at: &'static [u64],
     restart_at: &'static [u64],
+    // The replies that are lost; if there are any, the acknowledgements are numbered.
+    lost: &'static [u64],
 }
 
 const NO_FAULTS: Faults = Faults {
     fates: &[],
     fail_at: &[],
     restart_at: &[],
+    lost: &[],
 };
 
 // A link to one listed port `p` and a printer of 4 buffer slots, whose last number is 4 at first.
@@ -76,11 +79,12 @@ fn memory_link(alloc: Global, faults: Faults) -> Result<MemoryLink, Fail> {
         names: ports(alloc)?,
         last: 4,
         slots: 4,
-        numbered: false,
+        numbered: !faults.lost.is_empty(),
         fates: FateList::from_items(Vec::from_slice(alloc, faults.fates)?),
         slow: 0,
         fail_at: calls_of(alloc, faults.fail_at)?,
         restart_at: calls_of(alloc, faults.restart_at)?,
+        lost: calls_of(alloc, faults.lost)?,
     };
     Ok(MemoryLink::new(alloc, schedule)?)
 }
@@ -146,6 +150,34 @@ const RESTART: [Call; 10] = [
     Call::Hear("ok"),
 ];
 
+// Of six replies the second, the fourth and the last are lost: the `ok` of a line, a `Resend`, and an `ok` again.
+const LOST_REPLIES: [Call; 11] = [
+    Call::Dial("p", Ok(())),
+    Call::Send("N0 M110 N1*124", Ok(())),
+    Call::Hear("ok N0 P15 B3"),
+    Call::Send("N2 G28*17", Ok(())),
+    Call::Quiet,
+    Call::Send("N3 G1 X10*83", Ok(())),
+    Call::Hear("Error:checksum mismatch, Last Line: 2"),
+    Call::Hear("ok"),
+    Call::Quiet,
+    Call::Send("N3 G1 X10*82", Ok(())),
+    Call::Quiet,
+];
+
+#[test]
+fn link_loses_replies(rt: HostRuntime) -> Result<(), Fail> {
+    let faults = Faults {
+        lost: &[2, 4, 6],
+        ..NO_FAULTS
+    };
+    let mut link = memory_link(rt.alloc(), faults)?;
+    make_calls(&rt, &mut link, &LOST_REPLIES);
+    check_executed(&rt, &link, 1, &[(2, "G28"), (3, "G1 X10")]);
+    assert_eq!(&rt; (link.sends(), link.losses()), (4, 0));
+    Ok(())
+}
+
 #[test]
 fn printer_restarts(rt: HostRuntime) -> Result<(), Fail> {
     let faults = Faults {
@@ -183,6 +215,38 @@ fn link_loses_and_fails(rt: HostRuntime) -> Result<(), Fail> {
     Ok(())
 }
 
+// The calls that fail.
+const FAILING: [u64; 6] = [1, 4, 6, 7, 20, 33];
+
+// Makes the next call, and says whether it fails: it dials if the link is down, else it sends at each fifth call, and receives at
+// the others.
+fn fails(rt: &impl Abort, link: &mut MemoryLink, call: u64) -> bool {
+    if !link.is_up() {
+        return link.dial("p").is_err();
+    }
+    if call % 5 == 0 {
+        let line = Line::try_from(b"N0 M110 N1*124".as_slice()).expect(rt, "a short line");
+        assert!(rt; line.len() <= MOST_LINE_BYTES);
+        return link.send(&line).is_err();
+    }
+    link.recv(&mut ReplyLine::new()).is_err()
+}
+
+// The listed calls fail, whichever they are: two that dial, three that receive, one that sends. No other does.
+#[test]
+fn listed_calls_fail(rt: HostRuntime) -> Result<(), Fail> {
+    let faults = Faults {
+        fail_at: &FAILING,
+        ..NO_FAULTS
+    };
+    let mut link = memory_link(rt.alloc(), faults)?;
+    for call in 1..61 {
+        let fails = fails(&rt, &mut link, call);
+        assert_eq!(&rt; fails, FAILING.contains(&call));
+    }
+    Ok(())
+}
+
 // Each call that allocates; allocation succeeds.
 #[test]
 fn ample(rt: HostRuntime) -> Result<(), Fail> {
@@ -190,6 +254,7 @@ fn ample(rt: HostRuntime) -> Result<(), Fail> {
         fates: &[Fate::Lost],
         fail_at: &[2],
         restart_at: &[1],
+        lost: &[1],
     };
     let link = memory_link(rt.alloc(), faults)?;
     check_executed(&rt, &link, 1, &[]);

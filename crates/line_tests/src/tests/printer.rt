@@ -2,9 +2,24 @@
 ghost use Rattle.std.specs.Prelude.{◌≤◌};
 
 use byte_text::{Line, ReplyLine};
-use printer_model::{Printer, Reason, Taken, World, WorldEvent};
+use printer_model::{Oks, Printer, Reason, Taken, World, WorldEvent};
 use std::alloc::Global;
 use std::process::Abort;
+
+const PLAIN: Oks = Oks {
+    numbered: false,
+    lost: false,
+};
+
+const NUMBERED: Oks = Oks {
+    numbered: true,
+    lost: false,
+};
+
+const LOSSY: Oks = Oks {
+    numbered: true,
+    lost: true,
+};
 
 // A line of the outside.
 fn line(rt: &impl Abort, text: &str) -> Line {
@@ -29,6 +44,7 @@ enum Step {
     Send(&'static str),
     Arrive,
     Lose(u32),
+    LoseReply(u32),
     Garble(&'static str),
     Run,
     Restart,
@@ -46,6 +62,7 @@ fn event(rt: &impl Abort, step: Step) -> WorldEvent {
         Step::Send(text) => WorldEvent::Send(line(rt, text)),
         Step::Arrive => WorldEvent::Arrive,
         Step::Lose(at) => WorldEvent::Lose { at },
+        Step::LoseReply(at) => WorldEvent::LoseReply { at },
         Step::Garble(text) => WorldEvent::Garble {
             at: 0,
             line: line(rt, text),
@@ -79,7 +96,21 @@ fn count_run(rt: &impl Abort, alloc: Global, slots: u8, steps: &[(Step, bool)]) 
     requires some { 1 ≤ slots }
     requires few { slots ≤ 16 }
 {
-    let mut world = World::new(alloc, slots, false);
+    count_run_by(rt, alloc, slots, PLAIN, steps)
+}
+
+// The same with these acknowledgements.
+fn count_run_by(
+    rt: &impl Abort,
+    alloc: Global,
+    slots: u8,
+    oks: Oks,
+    steps: &[(Step, bool)],
+) -> usize
+    requires some { 1 ≤ slots }
+    requires few { slots ≤ 16 }
+{
+    let mut world = World::new(alloc, slots, oks);
     for (step, happens) in steps {
         perform(rt, &mut world, *step, *happens);
     }
@@ -138,7 +169,7 @@ const STEPS: [(Step, bool); 44] = [
 ];
 
 // The greatest number, and events that can't happen.
-const REFUSALS: [(Step, bool); 24] = [
+const REFUSALS: [(Step, bool); 25] = [
     (Step::Send("M105"), false),
     (Step::Quiet, false),
     (Step::Close, false),
@@ -150,6 +181,7 @@ const REFUSALS: [(Step, bool); 24] = [
     (Step::Chat("Resend: 1"), false),
     (Step::Chat("start"), false),
     (Step::Chat("echo:busy: processing"), true),
+    (Step::LoseReply(0), false),
     (Step::Hear("echo:busy: processing"), true),
     (Step::Send("N0 M110 N1*125"), true),
     (Step::Send("N2 G28"), true),
@@ -197,6 +229,28 @@ const RESTART: [(Step, bool); 19] = [
     (Step::Hear("ok"), true),
 ];
 
+// The `Resend` of a refusal and an `ok` are lost.
+const LOST_REPLIES: [(Step, bool); 18] = [
+    (Step::Open(4), true),
+    (Step::LoseReply(0), false),
+    (Step::Send("N0 M110 N1*125"), true),
+    (Step::Arrive, true),
+    (Step::LoseReply(1), true),
+    (Step::Hear("Error:checksum mismatch, Last Line: 4"), true),
+    (Step::Hear("ok"), true),
+    (Step::Quiet, false),
+    (Step::Send("N0 M110 N1*124"), true),
+    (Step::Arrive, true),
+    (Step::Run, true),
+    (Step::LoseReply(1), false),
+    (Step::LoseReply(0), true),
+    (Step::Quiet, false),
+    (Step::Send("N2 G28*17"), true),
+    (Step::Arrive, true),
+    (Step::Run, true),
+    (Step::Hear("ok N2 P15 B3"), true),
+];
+
 // Each event that allocates.
 const ALLOCATING: [(Step, bool); 6] = [
     (Step::Open(0), true),
@@ -215,6 +269,11 @@ fn world_follows_steps(rt: HostRuntime) {
 #[test]
 fn world_refuses_events(rt: HostRuntime) {
     assert_eq!(&rt; count_run(&rt, rt.alloc(), 4, &REFUSALS), 0);
+}
+
+#[test]
+fn replies_are_lost(rt: HostRuntime) {
+    assert_eq!(&rt; count_run_by(&rt, rt.alloc(), 4, LOSSY, &LOST_REPLIES), 2);
 }
 
 #[test]
@@ -269,7 +328,7 @@ fn replies(rt: &impl Abort, printer: &mut Printer, number: u32, reply: &str) {
 
 #[test]
 fn printer_answers(rt: HostRuntime) {
-    let mut printer = Printer::new(4, 2, true);
+    let mut printer = Printer::new(4, 2, NUMBERED);
     for (text, want) in ARRIVALS {
         arrives(&rt, &mut printer, text, want);
     }

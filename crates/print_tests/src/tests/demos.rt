@@ -107,6 +107,14 @@ fn all_commands(rt: HostRuntime) -> Result<(), Fail> {
     is_file(&rt, rt.alloc(), 3, 5, wanted)
 }
 
+// The printer of a demo has the line number 4 at first. The hello sets another one, so nothing else shows it.
+#[test]
+fn first_number(rt: HostRuntime) -> Result<(), Fail> {
+    let demo = run_demo(rt.alloc(), 1, 3)?;
+    assert_eq!(&rt; demo.link.first_number(), 4);
+    Ok(())
+}
+
 // The demo of a seed executes, sends and loses these numbers of lines, and is printed.
 fn comes_to(
     rt: &impl Abort,

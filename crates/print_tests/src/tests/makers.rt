@@ -55,7 +55,8 @@ fn calls(alloc: Global, call: Option<u64>) -> Result<CallList, AllocError> {
 
 // A link to a printer with four slots, whose last line had the number 4.
 pub(super) fn link_of(alloc: Global, wire: &Wire) -> Result<MemoryLink, Fail>
-    ensures { IfOk result (λ link. (link_world link).linked ≡ false) }
+    ensures down { IfOk result (λ link. (link_world link).linked ≡ false) }
+    ensures plain { IfOk result (λ link. link.story.oks.lost ≡ false) }
 {
     let schedule = Schedule {
         names: ports(alloc, wire.listed)?,
@@ -66,6 +67,7 @@ pub(super) fn link_of(alloc: Global, wire: &Wire) -> Result<MemoryLink, Fail>
         slow: wire.slow,
         fail_at: calls(alloc, wire.fails_at)?,
         restart_at: calls(alloc, wire.restarts_at)?,
+        lost: CallList::new(alloc),
     };
     Ok(MemoryLink::new(alloc, schedule)?)
 }

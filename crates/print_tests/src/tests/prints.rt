@@ -1,6 +1,7 @@
 //! Whole prints.
 ghost use Rattle.std.specs.Prelude.{◌≡◌, false};
 ghost use Rattle.octo_session_print.specs.Ends.{IsNew};
+ghost use Rattle.printer_link.specs.Suits.{SuitsAs};
 
 mod ends;
 mod scripts;
@@ -63,6 +64,7 @@ fn print_over<L: Link>(
 ) -> Result<PrintEnd, Fail>
     requires new { IsNew session.old }
     requires down { L.up link.old ≡ false }
+    requires suits { SuitsAs false (L.past link.old) (L.kind link.old).oks }
 {
     let port = Name::of("p")?;
     let name = Name::of("a.gcode")?;

@@ -28,7 +28,7 @@ use Rattle.octo_session_print.proofs.Prompting.{leads_left}
 use Rattle.octo_session_print.proofs.print.make_turn.Goals as goal
 
 pub returns-clause-goes : goal.returns-clause-goes
-returns-clause-goes g c p port first limit patient way =
+returns-clause-goes g c p port first limit patient suits way =
     let e = c.turn-turned.ensures in
     let turned = c.turn-turned.result in
     let old : SessionData = c.args.session.now in
@@ -50,7 +50,7 @@ returns-clause-goes g c p port first limit patient way =
           turn_fits c.args.moment _ _ _ _ _ old mid turned t e.by_note.before 0 limit (omega arith) patient why (sym found ∙ is) (subst F found e.by_note.finds));
     }
     in
-    let went = turn_goes c.args.moment kind _ _ _ _ old mid turned h p port first way in
+    let went = turn_goes c.args.moment kind _ _ _ _ old mid turned h p port first suits way in
     let on = follows kind p port first now mid (fact_of turned.note) turned.ending
     (λ is. ((e.by_note.ready.0 is).1, e.by_note.greatest ∙ c.requires.unstarted (e.by_note.ready.0 is).0))
     (turn_free c.args.moment kind _ _ _ _ old mid turned h p port first way) went

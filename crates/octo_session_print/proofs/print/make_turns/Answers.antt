@@ -11,7 +11,7 @@ use Rattle.octo_session_print.specs.BetweenTurns.{IsOnLink}
 use Rattle.octo_session_print.specs.declared.end.PrintEnd.TheVariants as end
 use Rattle.octo_session_line_proof.proofs.Waits.{in_time, on_time_next}
 use Rattle.octo_session_print.proofs.Printing.{waited_by}
-use Rattle.octo_session_print.proofs.Loops.{under, awake, unstarted_in, found_unlisted, unlisted_first, same_turns, hung_over}
+use Rattle.octo_session_print.proofs.Loops.{suits_still, under, awake, unstarted_in, found_unlisted, unlisted_first, same_turns, hung_over}
 use Rattle.octo_session_plan_proof.specs.OnWay.{IsOnWay, plan_length}
 use Rattle.octo_session_plan_proof.proofs.Smooth.{shown_before, last_is, smooth_before, range_now, not_used}
 use Rattle.octo_session_print.proofs.Prompting.{sets_out}
@@ -41,10 +41,11 @@ loop-preserved g c =
     let port = port_of c.args.session.now.desk in
     let now = g.L.Link.past c.loop.link in
     let b = c.requires.begins in
+    let suits = suits_still (g.L.Link.kind c.args.link.now) kind first i.kind c.requires.suits in
     record {
       up = c.in-None.ensures.up refl;
       way = λ p dialling. (let K : LinkKind → Type 0 = λ k. IsOnLink k p port first (g.L.Link.past c.make_turn.new.link) c.make_turn.new.session in
-          inr (subst K (sym c.make_turn.ensures.kind) (c.in-None.ensures.goes p port first c.args.session.now.sender.limit i.on_time.patient (under c.loop.counter kind p port first now c.loop.session (i.way p dialling)))));
+          inr (subst K (sym c.make_turn.ensures.kind) (c.in-None.ensures.goes p port first c.args.session.now.sender.limit i.on_time.patient suits (under c.loop.counter kind p port first now c.loop.session (i.way p dialling)))));
       kind = c.make_turn.ensures.kind ∙ i.kind;
       calls = rose_then c.loop.counter 1 (g.L.Link.calls c.args.link.now) (g.L.Link.calls c.loop.link) _ i.calls (c.in-None.ensures.calls (awake c.loop.counter kind b.print port first now c.loop.session (i.way b.print b.dialling)) refl);
       on_time = on_time_next _ _ _ _ _ _ _ _ _ _ i.on_time c.now.ensures.now c.now.ensures.stays c.make_turn.ensures.clock c.max-moment.ensures
@@ -73,7 +74,8 @@ returns-in-Some-clause-over g c p dialling =
     let kind = g.L.Link.kind c.loop.link in
     let first = g.L.Link.past c.args.link.now in
     let port = port_of c.args.session.now.desk in
-    let over = c.in-Some.ensures.goes p port first c.args.session.now.sender.limit i.on_time.patient (under c.loop.counter kind p port first (g.L.Link.past c.loop.link) c.loop.session (i.way p dialling)) in
+    let suits = suits_still (g.L.Link.kind c.args.link.now) kind first i.kind c.requires.suits in
+    let over = c.in-Some.ensures.goes p port first c.args.session.now.sender.limit i.on_time.patient suits (under c.loop.counter kind p port first (g.L.Link.past c.loop.link) c.loop.session (i.way p dialling)) in
     let K : LinkKind → Type 0 = λ k. IsOver k (plan p.scripts (print_commands p)) c.in-Some.end first (g.L.Link.past c.make_turn.new.link) c.make_turn.new.session in
     subst K i.kind over
 
