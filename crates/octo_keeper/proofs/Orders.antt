@@ -39,9 +39,13 @@ less_from_test Greater passes = absurd (false≢true passes)
 less_not_equal : (o : Ordering) → o ≡ Less → o ≢ Equal
 less_not_equal o less equal = cc
 
--- entries each of which is less than the next one are apart
+-- entries each of which is less than the next one are less than each later one
+pub less_from_rising : (by : Order) (rows : List QueueEntry) → AllAdjacentBelow (λ a b. is_lt (compared by a b) ≡ true) rows (length rows) → AllPairs (λ a b. compared by a b ≡ Less) rows
+less_from_rising by rows up = λ i j d below within. rising_far (compared by) (order_total by) rows (λ k e inside. less_from_test _ (up k e inside)) i j d below within
+
+-- and so apart
 pub apart_from_rising : (by : Order) (rows : List QueueEntry) → AllAdjacentBelow (λ a b. is_lt (compared by a b) ≡ true) rows (length rows) → AllPairs (λ a b. compared by a b ≢ Equal) rows
-apart_from_rising by rows up = λ i j d below within. less_not_equal _ (rising_far (compared by) (order_total by) rows (λ k e inside. less_from_test _ (up k e inside)) i j d below within)
+apart_from_rising by rows up = λ i j d below within. less_not_equal _ (less_from_rising by rows up i j d below within)
 
 -- each two items at different places are in this relation
 abbrev AllApart : {X : Type 0} → (X → X → Type 0) → List X → Type 0

@@ -1,19 +1,16 @@
 -- What sorted copies of a queue tell of it.
-use Rattle.std.proofs.Common.{◌≡◌, ◌≢◌, ℕ, ◌<◌, ◌==◌, true, false, not, nat_le, List, [], ◌∷◌, length, get_or, Some, refl, sym, ap, ◌∙◌, subst}
+use Rattle.std.proofs.Common.{◌≡◌, ◌≢◌, ℕ, ◌==◌, true, false, not, nat_le, List, [], ◌∷◌, refl, sym, ap, subst}
 use Rattle.std.specs.Cmp.Lexicographic.{slice_cmp}
-use Rattle.std.specs.List.{AllPairs, AllByRecursion, list_all, count_by}
+use Rattle.std.specs.List.{AllPairs, AllByRecursion, list_all}
 use Rattle.std.specs.List.Sorted.{IsPermutation}
 use Rattle.std.specs.Ordering.{nat_cmp, ordering_then}
 use Rattle.std.specs.declared.cmp.Ordering.TheVariants.{Equal}
 use Rattle.std.proofs.lemmas.Bool.{and_from, false_from_ne_true, eqb-true}
 use Rattle.std.proofs.lemmas.Cmp.{nat_cmp_total, tied_itself}
-use Rattle.std.proofs.lemmas.Slice.Eq.{bytes_eq-Decides}
-use Rattle.std.proofs.lemmas.List.{get_or_default}
-use Rattle.std.proofs.lemmas.List.Folds.{list_all_at}
 use Rattle.std.proofs.lemmas.List.Sorted.{IsPermutation-sym, IsPermutation-trans, All-permutation, sum_by-IsPermutation}
 use Rattle.std.proofs.lemmas.List.Sums.{AllPass-from_list_all, list_all-from_AllPass}
 use Rattle.print_queue.specs.declared.entry.QueueEntry.{QueueEntry}
-use Rattle.print_queue.specs.Rows.{is_key, is_of}
+use Rattle.print_queue.specs.Rows.{is_key}
 use Rattle.print_queue.proofs.Comparisons.{key_user, key_name}
 use Rattle.print_queue.proofs.Pairs.{Pairs, pairs_from}
 use Rattle.octo_keeper.specs.declared.order.Order.TheVariants as order
@@ -51,24 +48,6 @@ apart_from_sorts rows one two moved first again second =
     all_pass rows
     (pairs_from _ rows (apart_permuted order.Arrival one rows (IsPermutation-sym rows one moved) first))
     (pairs_from _ rows (apart_permuted order.Key two rows (IsPermutation-sym rows two (IsPermutation-trans rows one two moved again)) second))
-
--- two entries of one user have as many beside them
-pub within_same_user : (rows : List QueueEntry) (a b : QueueEntry) → is_of (Some a.user) b ≡ true → is_within rows a ≡ is_within rows b
-within_same_user rows a b same = ap (λ (user : List ℕ). nat_le (count_by (is_of (Some user)) rows) 64) (sym ((bytes_eq-Decides b.user a.user).0 same))
-
--- what holds of an entry holds of the one at its place, and the other way round
-pub within_here : (rows : List QueueEntry) (i : ℕ) (row : QueueEntry) → row ≡ get_or rows i row → is_within rows (get_or rows i row) ≡ true → is_within rows row ≡ true
-within_here rows i row is passes = ap (is_within rows) is ∙ passes
-
-pub within_at : (rows : List QueueEntry) (i : ℕ) (row : QueueEntry) → i < length rows → row ≡ get_or rows i row → is_within rows row ≡ true → (d : QueueEntry) → is_within rows (get_or rows i d) ≡ true
-within_at rows i row inside is passes d = ap (is_within rows) (get_or_default rows i d row inside) ∙ (ap (is_within rows) (sym is) ∙ passes)
-
--- if the user of one entry has too many, they aren't all within the bound
-pub not_within : (rows : List QueueEntry) (i : ℕ) (row : QueueEntry) → i < length rows → row ≡ get_or rows i row → is_within rows row ≡ false → false ≡ list_all (is_within rows) rows
-not_within rows i row inside is fails = sym (list_all_at (is_within rows) rows i row inside (ap (is_within rows) (sym is) ∙ fails))
-
-pub all_within : (rows : List QueueEntry) → ((k : ℕ) (d : QueueEntry) → k < length rows → is_within rows (get_or rows k d) ≡ true) → true ≡ list_all (is_within rows) rows
-all_within rows each = sym (list_all-from_AllPass (is_within rows) rows each)
 
 -- whether each user has few entries doesn't depend on their order
 within_permuted : (rows ys : List QueueEntry) → IsPermutation rows ys → list_all (is_within ys) ys ≡ true → list_all (is_within rows) rows ≡ true

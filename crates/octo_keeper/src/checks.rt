@@ -1,9 +1,9 @@
 //! Whether tables are those that a host can begin with.
-ghost use Rattle.std.specs.Prelude.{◌≡◌, ◌+◌, true, Some, count_by, slice_index_or, IsTrue};
+ghost use Rattle.std.specs.Prelude.{◌≡◌, ◌+◌, true, Some, count_by, IsTrue};
 ghost use Rattle.std.specs.List.{list_all};
 ghost use Rattle.octo_access.specs.Rows.{is_named, has_digest};
-ghost use Rattle.print_queue.specs.declared.entry.QueueEntry.{QueueEntry};
 ghost use Rattle.print_queue.specs.Rows.{is_of};
+ghost use Rattle.octo_keeper.specs.Order.{AreRunsShort};
 ghost use Rattle.octo_keeper.specs.Tables.{AreSound};
 ghost use Rattle.octo_keeper.specs.Sound.{are_apart, are_numbered_from, are_sound, is_alone, is_apart, is_queue, is_user_list, is_whole, is_within};
 
@@ -57,41 +57,27 @@ fn are_whole(rows: &[QueueEntry]) -> bool
     rows.iter().all(is_whole)
 }
 
-// Whether an entry's user has few, after an entry whose user has: those of the same user aren't counted again.
-fn is_within_after(rows: &[QueueEntry], former: &QueueEntry, row: &QueueEntry) -> bool
-    requires { is_within rows.now former.now ≡ true }
-    ensures { result ≡ is_within rows.now row.now }
-{
-    if row.is_of(&former.user) {
-        return true;
-    }
-    is_within(rows, row)
-}
-
-// Whether each entry's user has few, if that of the first has.
-fn are_others_within(rows: &[QueueEntry]) -> bool
-    requires { (d : QueueEntry) → is_within rows.now (slice_index_or rows.now 0 d) ≡ true }
+fn are_within(rows: &[QueueEntry]) -> bool
     ensures { result ≡ list_all (is_within rows.now) rows.now }
 {
-    for place in 1..rows.len() {
-        if !is_within_after(rows, &rows[place - 1], &rows[place]) {
+    rows.iter().all(|row| is_within(rows, row))
+}
+
+// Whether no entry stands as many places behind one of its user as a user may have. In sorted entries, where those of a user stand
+// together, it tells that each has few.
+fn are_runs_short(rows: &[QueueEntry]) -> bool
+    ensures { IsTrue result → AreRunsShort rows.now }
+{
+    for place in MOST_ENTRIES..rows.len() {
+        if rows[place].is_of(&rows[place - MOST_ENTRIES].user) {
             return false;
         }
     }
     true
 }
 
-fn are_within(rows: &[QueueEntry]) -> bool
-    ensures { result ≡ list_all (is_within rows.now) rows.now }
-{
-    match rows {
-        [] => true,
-        [first, ..] => is_within(rows, first) && are_others_within(rows),
-    }
-}
-
 // Whether sorting entries shows that they are apart, and each user has few.
-#[tactic(auto, using(crate::proofs::SortedQueue::apart_from_sorts, crate::proofs::SortedQueue::within_from_sorts))]
+#[tactic(auto, using(crate::proofs::SortedQueue::apart_from_sorts, crate::proofs::SortedQueue::within_from_sorts, crate::proofs::Runs::within_from_runs))]
 fn sort_shows_queue(rows: &mut [QueueEntry]) -> bool
     ensures apart { IsTrue result → are_apart rows.old ≡ true }
     ensures within { IsTrue result → list_all (is_within rows.old) rows.old ≡ true }
@@ -102,7 +88,7 @@ fn sort_shows_queue(rows: &mut [QueueEntry]) -> bool
     if !Order::Key.tells_apart(rows) {
         return false;
     }
-    are_within(rows)
+    are_runs_short(rows)
 }
 
 // The same of a sorted copy; false too if out of memory.

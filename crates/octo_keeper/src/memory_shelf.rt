@@ -1,9 +1,9 @@
 //! A shelf in memory, some of whose calls fail.
 use crate::files::{bytes_at, copy_sizes, drop_file, put_file, size_at};
-use crate::{FileList, Shelf, ShelfFault, ShelfFile};
+use crate::{Fetched, FileList, NoStager, Shelf, ShelfFault, ShelfFile};
 use byte_text::Name;
 use octo_outside::{Blob, CallList, Calls};
-use std::alloc::Global;
+use std::alloc::{AllocError, Global};
 use std::marker::Model;
 
 /// Files in memory, by name.
@@ -44,6 +44,8 @@ impl Shelf for MemoryShelf {
     ghost use Rattle.octo_keeper.specs.Files.{bytes_of, size_of, sizes_of, with_file, without_file};
     ghost use Rattle.octo_keeper.specs.Memory.{ShelfData, fails_next, after_call};
 
+    type Stager = NoStager;
+
     ghost files = { λ s. Some s.files };
 
     ghost faults = { λ s. s.calls.faults };
@@ -65,7 +67,12 @@ impl Shelf for MemoryShelf {
         Ok(copy_sizes(alloc, &self.files)?)
     }
 
-    fn get(&mut self, alloc: Global, name: &Name) -> Result<Option<Blob>, ShelfFault>
+    fn get(
+        &mut self,
+        alloc: Global,
+        name: &Name,
+        _fetched: Option<Fetched>,
+    ) -> Result<Option<Blob>, ShelfFault>
         ensures ok { IfOk result (λ bytes. bytes ≡ bytes_of name.now self.old.files) }
         ensures stays { self.new.files ≡ self.old.files }
         ensures calls { self.new.calls ≡ after_call (fails_next self.old.calls) self.old.calls }
@@ -100,7 +107,19 @@ impl Shelf for MemoryShelf {
         Ok(size_at(&self.files, name))
     }
 
-    fn put(&mut self, alloc: Global, name: &Name, bytes: &[u8]) -> Result<(), ShelfFault>
+    fn stager(&self, number: u8) -> Result<NoStager, AllocError>
+        ensures { IfOk result (λ stager. stager.number ≡ number) }
+    {
+        Ok(NoStager::new(number))
+    }
+
+    fn put(
+        &mut self,
+        alloc: Global,
+        name: &Name,
+        bytes: &[u8],
+        _part: Option<u8>,
+    ) -> Result<(), ShelfFault>
         ensures ok { OnOk result (self.new.files ≡ with_file name.now bytes.now self.old.files) }
         ensures err { OnErr result (self.new.files ≡ self.old.files) }
         ensures calls { self.new.calls ≡ after_call (fails_next self.old.calls) self.old.calls }

@@ -2,7 +2,7 @@
 ghost use Rattle.std.specs.Prelude.{◌≡◌, ◌≢◌, true, length, AllPairs, IsTrue};
 ghost use Rattle.std.specs.List.{AllAdjacentBelow};
 ghost use Rattle.std.specs.List.Sorted.{IsPermutation};
-ghost use Rattle.std.specs.declared.cmp.Ordering.TheVariants.{Equal};
+ghost use Rattle.std.specs.declared.cmp.Ordering.TheVariants.{Less, Equal};
 ghost use Rattle.std.specs.Ordering.{is_lt};
 ghost use Rattle.octo_keeper.specs.Order.{compared};
 
@@ -60,10 +60,11 @@ impl Order {
         rows.sort_unstable_by(|a, b| self.compare(a, b));
     }
 
-    // Sorts entries, and says whether no two of them are equal in this order.
-    #[tactic(auto, using(crate::proofs::Orders::apart_from_rising))]
+    // Sorts entries, and says whether no two of them are equal in this order, so that each is less than all later ones.
+    #[tactic(auto, using(crate::proofs::Orders::less_from_rising, crate::proofs::Orders::apart_from_rising))]
     pub(crate) fn tells_apart(self, rows: &mut [QueueEntry]) -> bool
         ensures same { IsPermutation rows.old rows.new }
+        ensures rises { IsTrue result → AllPairs (λ a b. compared self a b ≡ Less) rows.new }
         ensures apart { IsTrue result → AllPairs (λ a b. compared self a b ≢ Equal) rows.new }
     {
         self.sort(rows);

@@ -1,4 +1,5 @@
 //! What keeps the files.
+use crate::{Fetched, Stager};
 use byte_text::Name;
 use octo_outside::{Blob, ItemList};
 use std::alloc::{AllocError, AllocFailed, Global};
@@ -49,6 +50,9 @@ pub type FileList = ItemList<(Name, u64)>;
 
 /// What keeps the files of a host: a map from names to bytes.
 pub trait Shelf {
+    /// What writes bytes beside these files, and reads them.
+    type Stager: Stager + Send + Drop;
+
     ghost use Rattle.std.specs.Prelude.{◌≡◌, ℕ, List, Option, option_map, IfOk, IfSome, OnOk, OnErr, IsErrOf};
     ghost use Rattle.octo_outside.specs.Recorded.{Counts};
     ghost use Rattle.octo_keeper.specs.declared.shelf.ShelfFile.{ShelfFile};
@@ -70,8 +74,14 @@ pub trait Shelf {
         ensures counts { Counts (IsErrOf result fault.Failed) (faults self.old) (faults self.new) }
         ensures steady { (IsErrOf result fault.Failed → ⊥) → faults self.new ≡ faults self.old };
 
-    /// The bytes of a file, `None` if there is no file of that name. Fails as `list` does.
-    fn get(&mut self, alloc: Global, name: &Name) -> Result<Option<Blob>, ShelfFault>
+    /// The bytes of a file, `None` if there is no file of that name. If a stager has read them, what it fetched is given, and
+    /// the shelf may take that and read nothing, if the file is still the same. Fails as `list` does.
+    fn get(
+        &mut self,
+        alloc: Global,
+        name: &Name,
+        fetched: Option<Fetched>,
+    ) -> Result<Option<Blob>, ShelfFault>
         ensures ok { IfOk result
             (λ bytes. IfSome (files self.old) (λ held. bytes ≡ bytes_of name.now held)) }
         ensures stays { files self.new ≡ files self.old }
@@ -88,8 +98,19 @@ pub trait Shelf {
         ensures counts { Counts (IsErrOf result fault.Failed) (faults self.old) (faults self.new) }
         ensures steady { (IsErrOf result fault.Failed → ⊥) → faults self.new ≡ faults self.old };
 
-    /// Sets the bytes of that name alone. Fails as `list` does; then the files are as before.
-    fn put(&mut self, alloc: Global, name: &Name, bytes: &[u8]) -> Result<(), ShelfFault>
+    /// A stager of that number. It begins with no part: one that was left under its number is removed. Fails if out of memory.
+    fn stager(&self, number: u8) -> Result<Self::Stager, AllocError>
+        ensures { IfOk result (λ stager. Self.Stager.number stager ≡ number) };
+
+    /// Sets the bytes of that name alone. If a stager has written them, its part is given, and the shelf may take that and write
+    /// nothing. Fails as `list` does; then the files are as before.
+    fn put(
+        &mut self,
+        alloc: Global,
+        name: &Name,
+        bytes: &[u8],
+        part: Option<u8>,
+    ) -> Result<(), ShelfFault>
         ensures ok { OnOk result
             (files self.new ≡ option_map (with_file name.now bytes.now) (files self.old)) }
         ensures err { OnErr result (files self.new ≡ files self.old) }

@@ -1,6 +1,10 @@
 -- The paths of the files on a shelf.
-use Rattle.std.specs.Prelude.{ℕ, codes, List, ◌++◌}
+use Rattle.std.specs.Prelude.{ℕ, codes, decimal, List, ◌++◌}
 
 -- the path of a file in a folder
 abbrev pub path_in : List ℕ → List ℕ → List ℕ → List ℕ
 path_in folder name ending = folder ++ codes "/" ++ name ++ ending
+
+-- the path of a stager's part in a folder
+abbrev pub part_in : List ℕ → ℕ → List ℕ
+part_in folder number = folder ++ codes "/.part-" ++ decimal number

@@ -4,14 +4,15 @@ ghost use Rattle.std.specs.IoError.{error_kind};
 ghost use Rattle.octo_access.specs.FileNames.{is_file_name};
 ghost use Rattle.octo_keeper.specs.declared.shelf.ShelfFault.TheVariants as fault;
 
-use crate::paths::{PART, path_in};
+use crate::fetching::mark_of;
+use crate::paths::{PART, part_in, path_in};
 use byte_text::Name;
 use gcode_lines::MOST_FILE_BYTES;
 use octo_access::is_file_name;
-use octo_keeper::ShelfFault;
+use octo_keeper::{Fetched, ShelfFault};
 use octo_outside::{Blob, FileSource, ReadAll, read_all};
 use std::alloc::Global;
-use std::fs::{OpenFile, OpenOptions};
+use std::fs::{Metadata, OpenFile, OpenOptions};
 use std::io::{ErrorKind, Write};
 use std::os::unix::fs::OpenOptionsExt;
 use std::rt::Files;
@@ -30,11 +31,12 @@ pub(crate) fn fault_of(error: &io::Error) -> ShelfFault
     }
 }
 
-// Whether a path names a regular file; a link isn't one.
-fn is_there<R: Files>(rt: &R, path: &str) -> Result<bool, ShelfFault> {
+// The state of the regular file that a path names, `None` if it names none; a link isn't one.
+fn state_of<R: Files>(rt: &R, path: &str) -> Result<Option<Metadata>, ShelfFault> {
     match fs::symlink_metadata(rt, path) {
-        Ok(metadata) => Ok(metadata.is_file()),
-        Err(error) if error.kind() == ErrorKind::NotFound => Ok(false),
+        Ok(metadata) if metadata.is_file() => Ok(Some(metadata)),
+        Ok(_) => Ok(None),
+        Err(error) if error.kind() == ErrorKind::NotFound => Ok(None),
         Err(error) => Err(fault_of(&error)),
     }
 }
@@ -57,12 +59,21 @@ fn read_bytes<R: Files + AllocGlobal + Clone + Drop>(
     }
 }
 
-// The bytes of a file, `None` if the folder has none of that name.
+// The bytes that were fetched, if they are of this name and the file in this state.
+fn fetched_bytes(fetched: Option<Fetched>, name: &Name, state: &Metadata) -> Option<Blob> {
+    match fetched {
+        Some(fetched) => fetched.bytes_of(name, mark_of(state)),
+        None => None,
+    }
+}
+
+// The bytes of a file, `None` if the folder has none of that name. It is read unless it was fetched, and is still the same.
 pub(crate) fn read_file<R: Files + AllocGlobal + Clone + Drop>(
     alloc: Global,
     rt: &R,
     folder: &Name,
     name: &Name,
+    fetched: Option<Fetched>,
 ) -> Result<Option<Blob>, ShelfFault>
     ensures other { is_file_name name.now ≡ false → result ≡ Ok None }
 {
@@ -70,8 +81,11 @@ pub(crate) fn read_file<R: Files + AllocGlobal + Clone + Drop>(
         return Ok(None);
     }
     let path = path_in(folder, name, "");
-    if !is_there(rt, path.as_str())? {
+    let Some(state) = state_of(rt, path.as_str())? else {
         return Ok(None);
+    };
+    if let Some(bytes) = fetched_bytes(fetched, name, &state) {
+        return Ok(Some(bytes));
     }
     let bytes = read_bytes(alloc, rt, path.as_str())?;
     Ok(Some(bytes))
@@ -89,16 +103,14 @@ pub(crate) fn size_of_file<R: Files>(
         return Ok(None);
     }
     let path = path_in(folder, name, "");
-    match fs::symlink_metadata(rt, path.as_str()) {
-        Ok(metadata) if metadata.is_file() => Ok(Some(metadata.len())),
-        Ok(_) => Ok(None),
-        Err(error) if error.kind() == ErrorKind::NotFound => Ok(None),
-        Err(error) => Err(fault_of(&error)),
+    match state_of(rt, path.as_str())? {
+        Some(state) => Ok(Some(state.len())),
+        None => Ok(None),
     }
 }
 
 // Writes a new file, and has the disk take it.
-fn write_new<R: Files>(rt: &R, path: &str, bytes: &[u8]) -> io::Result<()> {
+pub(crate) fn write_new<R: Files>(rt: &R, path: &str, bytes: &[u8]) -> io::Result<()> {
     let mut file = OpenOptions::new()
         .write(true)
         .create_new(true)
@@ -120,26 +132,65 @@ fn replace<R: Files>(rt: &R, part: &str, path: &str, bytes: &[u8]) -> io::Result
     fs::rename(rt, part, path)
 }
 
-// Sets the bytes of a file: a new one is written beside it, synced and renamed, and then the folder is synced. Until the
-// rename the former file exists, also after a full disk.
+// Renames a part that has this number of bytes, and returns whether it did.
+fn rename_part<R: Files>(rt: &R, part: &str, path: &str, size: u64) -> bool {
+    match fs::symlink_metadata(rt, part) {
+        Ok(metadata) if metadata.is_file() && metadata.len() == size => {
+            fs::rename(rt, part, path).is_ok()
+        }
+        Ok(_) | Err(_) => false,
+    }
+}
+
+// Writes a new file beside the former one, and renames it; a failure leaves none beside it.
+fn write_beside<R: Files>(rt: &R, part: &str, path: &str, bytes: &[u8]) -> Result<(), ShelfFault> {
+    let _ = fs::remove_file(rt, part);
+    if let Err(error) = replace(rt, part, path, bytes) {
+        let _ = fs::remove_file(rt, part);
+        return Err(fault_of(&error));
+    }
+    Ok(())
+}
+
+// Gives a file its name, after which the folder isn't synced yet: a part that a stager wrote is renamed, and without one the
+// bytes are written.
+fn place<R: Files>(
+    rt: &R,
+    folder: &Name,
+    name: &Name,
+    bytes: &[u8],
+    part: Option<u8>,
+) -> Result<(), ShelfFault> {
+    let path = path_in(folder, name, "");
+    if let Some(number) = part {
+        let part = part_in(folder, number);
+        if rename_part(rt, part.as_str(), path.as_str(), bytes.len() as u64) {
+            return Ok(());
+        }
+    }
+    write_beside(
+        rt,
+        path_in(folder, name, PART).as_str(),
+        path.as_str(),
+        bytes,
+    )
+}
+
+// Sets the bytes of a file: a new one is written beside it and synced, unless a stager has done so. It is renamed, and then the
+// folder is synced. Until the rename the former file exists, also after a full disk.
 pub(crate) fn write_file<R: Files>(
     rt: &R,
     folder: &Name,
     name: &Name,
     bytes: &[u8],
+    part: Option<u8>,
 ) -> Result<(), ShelfFault>
     ensures other { is_file_name name.now ≡ false → result ≡ Err fault.Failed }
 {
     if !is_file_name(name.as_str()) {
         return Err(ShelfFault::Failed);
     }
-    let path = path_in(folder, name, "");
-    let part = path_in(folder, name, PART);
-    let _ = fs::remove_file(rt, part.as_str());
-    if let Err(error) = replace(rt, part.as_str(), path.as_str(), bytes) {
-        let _ = fs::remove_file(rt, part.as_str());
-        return Err(fault_of(&error));
-    }
+    place(rt, folder, name, bytes, part)?;
     match sync_folder(rt, folder) {
         Ok(()) => Ok(()),
         Err(error) => Err(fault_of(&error)),
@@ -154,7 +205,7 @@ pub(crate) fn remove_file<R: Files>(rt: &R, folder: &Name, name: &Name) -> Resul
         return Ok(());
     }
     let path = path_in(folder, name, "");
-    if !is_there(rt, path.as_str())? {
+    if state_of(rt, path.as_str())?.is_none() {
         return Ok(());
     }
     if let Err(error) = fs::remove_file(rt, path.as_str()) {

@@ -1,9 +1,10 @@
 //! The paths of the files on a shelf.
 ghost use Rattle.std.specs.Prelude.{◌≡◌, ◌≤◌, codes, length};
-ghost use Rattle.octo_keeper_folder.specs.Paths.{path_in};
+ghost use Rattle.octo_keeper_folder.specs.Paths.{path_in, part_in};
 
 use arrayvec::ArrayString;
 use byte_text::Name;
+use itoa::Buffer;
 
 // The path of a file: a folder and a name, of at most 100 bytes each, and an ending.
 pub(crate) type FilePath = ArrayString<206>;
@@ -21,5 +22,17 @@ pub(crate) fn path_in(folder: &Name, name: &Name, ending: &str) -> FilePath
     path.push_str("/");
     path.push_str(name.as_str());
     path.push_str(ending);
+    path
+}
+
+// The path of a stager's part in a folder.
+pub(crate) fn part_in(folder: &Name, number: u8) -> FilePath
+    ensures { result.bytes ≡ part_in folder.now number }
+{
+    let mut digits = Buffer::new();
+    let mut path = FilePath::new();
+    path.push_str(folder.as_str());
+    path.push_str("/.part-");
+    path.push_str(digits.format(number));
     path
 }

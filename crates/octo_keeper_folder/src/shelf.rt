@@ -2,18 +2,26 @@
 use crate::files::{read_file, remove_file, size_of_file, write_file};
 use crate::folder::list_files;
 use crate::listing::Listing;
+use crate::stager::FolderStager;
 use byte_text::Name;
-use octo_keeper::{FileList, Shelf, ShelfFault};
+use octo_keeper::{Fetched, FileList, Shelf, ShelfFault};
 use octo_outside::Blob;
-use std::alloc::Global;
+use std::alloc::{AllocError, Global};
 use std::rt::Files;
 
 /// The files of a folder of the system. It doesn't record them.
 ///
 /// Its files are the regular files in it whose names are names of print files. After a put that returned `Ok` a loss of power
-/// leaves the new file whole; before, it leaves the former one, and perhaps a file `NAME.part`, which is passed over and which
-/// the next put of that name replaces. What was listed is kept until a put or a remove, so a file that another program puts into
-/// the folder isn't listed at once. Source: POSIX.1-2017, `rename` and `fsync`.
+/// leaves the new file whole; before, it leaves the former one, and perhaps a stager's part, or a file `NAME.part`, which is passed
+/// over and which the next put of that name replaces. What was listed is kept until a put or a remove, so a file that another
+/// program puts into the folder isn't listed at once.
+///
+/// A put with a part renames that, if it is a regular file of the size of the bytes; else it writes the bytes itself. Source:
+/// POSIX.1-2017, `rename` and `fsync`.
+///
+/// A get to which a fetched file is given returns the bytes of that, if the file of that name still has its mark; else it reads
+/// the file. So the bytes are those of the file as it is at the get. Only a program that writes into a file in place within the
+/// same tick of the system's clock as it did before the fetch may be missed.
 #[derive(Drop)]
 pub struct FolderShelf<R: Files + AllocGlobal + Clone + Drop> {
     rt: R,
@@ -71,12 +79,15 @@ impl<R: Files + AllocGlobal + Clone + Drop> FolderShelf<R> {
     }
 }
 
-impl<R: Files + AllocGlobal + Clone + Drop> Shelf for FolderShelf<R> {
+impl<R: Files + AllocGlobal + Clone + Send + Drop> Shelf for FolderShelf<R> {
     ghost use Rattle.std.specs.Prelude.{◌≡◌, false, None, Ok, Err, IfOk, IsOk, IsErrOf};
     ghost use Rattle.octo_outside.specs.Recorded.{Counts};
     ghost use Rattle.octo_access.specs.FileNames.{is_file_name};
     ghost use Rattle.octo_keeper.specs.declared.shelf.ShelfFault.TheVariants as fault;
     ghost use Rattle.octo_keeper_folder.specs.Listed.{IsListing};
+    ghost use Rattle.octo_keeper_folder.specs.Paths.{part_in};
+
+    type Stager = FolderStager<R>;
 
     ghost files = { λ _. None };
 
@@ -93,14 +104,19 @@ impl<R: Files + AllocGlobal + Clone + Drop> Shelf for FolderShelf<R> {
         self.count(listed)
     }
 
-    fn get(&mut self, alloc: Global, name: &Name) -> Result<Option<Blob>, ShelfFault>
+    fn get(
+        &mut self,
+        alloc: Global,
+        name: &Name,
+        fetched: Option<Fetched>,
+    ) -> Result<Option<Blob>, ShelfFault>
         ensures other { is_file_name name.now ≡ false → result ≡ Ok None }
         ensures folder { self.new.folder ≡ self.old.folder }
 
         ensures counts { Counts (IsErrOf result fault.Failed) self.old.faults self.new.faults }
         ensures steady { (IsErrOf result fault.Failed → ⊥) → self.new.faults ≡ self.old.faults }
     {
-        let read = read_file(alloc, &self.rt, &self.folder, name);
+        let read = read_file(alloc, &self.rt, &self.folder, name, fetched);
         self.count(read)
     }
 
@@ -115,7 +131,23 @@ impl<R: Files + AllocGlobal + Clone + Drop> Shelf for FolderShelf<R> {
         self.count(size)
     }
 
-    fn put(&mut self, _alloc: Global, name: &Name, bytes: &[u8]) -> Result<(), ShelfFault>
+    fn stager(&self, number: u8) -> Result<FolderStager<R>, AllocError>
+        ensures number { IfOk result (λ stager. stager.number ≡ number) }
+        ensures part { IfOk result (λ stager.
+            stager.part.bytes ≡ part_in self.now.folder number) }
+        ensures folder { IfOk result (λ stager. stager.folder ≡ self.now.folder) }
+    {
+        let files = self.rt.clone()?;
+        Ok(FolderStager::new(files, &self.folder, number))
+    }
+
+    fn put(
+        &mut self,
+        _alloc: Global,
+        name: &Name,
+        bytes: &[u8],
+        part: Option<u8>,
+    ) -> Result<(), ShelfFault>
         ensures other { is_file_name name.now ≡ false → result ≡ Err fault.Failed }
         ensures folder { self.new.folder ≡ self.old.folder }
 
@@ -123,7 +155,7 @@ impl<R: Files + AllocGlobal + Clone + Drop> Shelf for FolderShelf<R> {
         ensures steady { (IsErrOf result fault.Failed → ⊥) → self.new.faults ≡ self.old.faults }
     {
         self.listing = None;
-        let done = write_file(&self.rt, &self.folder, name, bytes);
+        let done = write_file(&self.rt, &self.folder, name, bytes, part);
         self.count(done)
     }
 

@@ -1,11 +1,12 @@
 -- Why calls of a transaction fail, one after the other.
-use Rattle.std.proofs.Common.{◌≡◌, ◌⊎◌, ℕ, List, [], ◌++◌, Option, Some, None, ok_or, MatchOption, Result, Err, ℤ, IsTrue, inl, inr, sym, ◌∙◌}
+use Rattle.std.proofs.Common.{◌≡◌, ◌⊎◌, ℕ, cond, ap, List, [], ◌++◌, Option, Some, None, ok_or, MatchOption, Result, Err, ℤ, IsTrue, inl, inr, sym, ◌∙◌}
 use Rattle.std.specs.Borrow.{MutBor}
 use Rattle.sqlite_value.specs.Order.{Row}
 use Rattle.sqlite_trees.specs.declared.store.Store.{Ghosts}
 use Rattle.sqlite.specs.declared.error.Error.{Error}
 use Rattle.sqlite.specs.Held.{Held, state}
-use Rattle.sqlite.specs.State.{State, FailsToQuery, IsTooLate, Shown, ShowsRows}
+use Rattle.sqlite.specs.State.{State, FailsToQuery, FailsToShow, IsNotRun, IsRolledBack, IsTooLate, IsUnchanged, KeepsCommit, Shown, ShowsRows}
+use Rattle.sqlite.proofs.InsideLemmas.{unchanged_keeps}
 use Rattle.octo_keeper_sql.specs.Kept.{Unstored}
 use Rattle.octo_keeper_sql.specs.Loads.{Found}
 use Rattle.octo_keeper_sql.specs.Statements.{Statement, Runs, FailsInTurn, InTransaction}
@@ -21,6 +22,31 @@ shows_inside old new sql c params rows (Some what) shown = shown.1.shown.mode
 shown_inside : (old new : State) (sql : List ℕ) (params : Row) (rows : List Row) → Shown sql params old new rows → new.in_transaction ≡ old.in_transaction
 unfolding Shown
 shown_inside old new sql params rows shown = shows_inside old new sql shown.0 _ rows shown.0.returning shown.2
+
+-- and it keeps the last commit
+shows_keeps : (old new : State) (sql : List ℕ) (c : _) (params : Row) (rows : List Row) (returning : _) → ShowsRows old new sql c params rows returning
+    → IsTrue old.in_transaction → KeepsCommit old new
+shows_keeps old new sql c params rows None shown inside = unchanged_keeps old new (inl shown.3)
+shows_keeps old new sql c params rows (Some what) shown inside =
+    let w = shown.1.shown in
+    record { was_open = λ _. w.was_open; committed = λ _. w.committed_is ∙ ap (λ b. cond b old.committed new.now) inside }
+
+pub shown_keeps : (old new : State) (sql : List ℕ) (params : Row) (rows : List Row) → Shown sql params old new rows → IsTrue old.in_transaction → KeepsCommit old new
+unfolding Shown
+shown_keeps old new sql params rows shown inside = shows_keeps old new sql shown.0 _ rows shown.0.returning shown.2 inside
+
+-- a query that fails changed nothing, or ended the transaction
+not_shown : (old new : State) (sql : List ℕ) (c : _) (params : Row) (error : Error) (returning : _) → FailsToShow old new sql c params error returning
+    → IsUnchanged old new ⊎ IsRolledBack old new
+not_shown old new sql c params error None fails = inl fails.3
+not_shown old new sql c params error (Some what) (inl refused) = inl refused.1
+not_shown old new sql c params error (Some what) (inr fails) = inr fails.3
+
+pub fails_keeps : (old new : State) (sql : List ℕ) (params : Row) (error : Error) → FailsToQuery sql params old new error → KeepsCommit old new
+unfolding FailsToQuery IsNotRun
+fails_keeps old new sql params error (inl (inl refused)) = unchanged_keeps old new (inl refused.1)
+fails_keeps old new sql params error (inl (inr fails)) = unchanged_keeps old new (inr fails.3)
+fails_keeps old new sql params error (inr ran) = unchanged_keeps old new (not_shown old new sql ran.0 _ error ran.0.returning ran.2)
 
 -- a query of an open transaction doesn't come too late
 pub in_time : (sql : List ℕ) (params : Row) (old new : State) (error : Error) → FailsToQuery sql params old new error ⊎ IsTooLate sql params old new error → IsTrue old.in_transaction

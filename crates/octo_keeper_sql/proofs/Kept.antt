@@ -1,15 +1,17 @@
 -- Statements of a transaction one after the other.
-use Rattle.std.proofs.Common.{◌≡◌, true, inl, refl, subst, ◌∙◌, arith}
+use Rattle.std.proofs.Common.{◌≡◌, IsTrue, true, inl, inr, refl, subst, ◌∙◌, arith}
 use Rattle.sqlite_trees.specs.Tree.{Trees}
 use Rattle.sqlite_trees.specs.declared.store.Store.{Ghosts}
 use Rattle.sqlite.specs.Held.{Held, state}
-use Rattle.sqlite.specs.State.{State, KeepsCommit, Survives}
+use Rattle.sqlite.specs.declared.error.Error.{Error}
+use Rattle.sqlite.specs.State.{State, IsRolledBack, KeepsCommit, Survives}
+use Rattle.sqlite.specs.Steps.{FailsToCommit}
 use Rattle.sqlite.proofs.InsideLemmas.{keeps_then}
 use Rattle.sqlite.proofs.StateLemmas.{survives_then, survives_weaker}
 use Rattle.sqlite.proofs.Callers.{survives_begin}
 use Rattle.std.specs.Borrow.{MutBor}
 use Rattle.sqlite.specs.State.{HasCleanDisk}
-use Rattle.octo_keeper_sql.specs.Kept.{KeepsLast, StoresNothing, Kept, Unstored, IsAfter, IsAtomic}
+use Rattle.octo_keeper_sql.specs.Kept.{KeepsLast, StoresNothing, Kept, KeepsLastCommit, Unstored, IsAfter, IsAtomic}
 
 same_commit : (a : State) → KeepsCommit a a
 same_commit a = record { was_open = λ h. h; committed = λ _. refl }
@@ -31,6 +33,14 @@ keeps_last_then a b c one two = record {
 
 keeps_last_same : (a : State) → KeepsLast a a
 keeps_last_same a = record { stores = nothing_same a; kept = λ _. same_commit a }
+
+-- a transaction that kept the last commit and was undone, and one whose commit failed
+pub undone_after : (old last new : State) → KeepsCommit old last → IsRolledBack last new → IsTrue new.is_open → new.committed ≡ old.committed
+undone_after old last new kept undone is_open = (undone.undone is_open).1 ∙ kept.committed (undone.was_open is_open)
+
+pub lost_after : (old last new : State) (error : Error) → KeepsCommit old last → FailsToCommit last new error → IsTrue new.is_open → new.committed ≡ old.committed
+lost_after old last new error kept (inl fails) is_open = undone_after old last new kept fails.3 is_open
+lost_after old last new error kept (inr refused) is_open = refused.2.0.committed_is ∙ kept.committed refused.2.0.was_open
 
 -- calls inside a transaction one after the other
 module _ {S : Type 0} (g : Ghosts S) where
@@ -60,6 +70,13 @@ module _ {S : Type 0} (g : Ghosts S) where
     same_reference = two.same_reference ∙ one.same_reference;
     moved = nothing_then (state g a.now) (state g b.now) (state g c.now) one.moved two.moved;
   }
+
+  -- the last commit after two calls
+  pub commit_then : (a b c : MutBor (Held S)) → Unstored g b c → KeepsLastCommit g a.now b.now → KeepsLastCommit g b.now c.now → KeepsLastCommit g a.now c.now
+  commit_then a b c later one two clean = keeps_then (state g a.now) (state g b.now) (state g c.now) (one (unstored_clean b c later clean)) (two clean)
+
+  pub commit_same : (a : MutBor (Held S)) → KeepsLastCommit g a.now a.now
+  commit_same a clean = same_commit (state g a.now)
 
 -- a transaction that wasn't begun, or was undone, or committed
 module _ {S : Type 0} (g : Ghosts S) (Work : Held S → Held S → Type 0) (old : Held S) where

@@ -28,6 +28,10 @@ Kept g = Inside g KeepsLast
 abbrev pub Unstored : {S : Type 0} → Ghosts S → MutBor (Held S) → MutBor (Held S) → Type 0
 Unstored g = Inside g StoresNothing
 
+-- the last commit is the same, if the disk returned what was written
+abbrev pub KeepsLastCommit : {S : Type 0} → Ghosts S → Held S → Held S → Type 0
+KeepsLastCommit g old new = HasCleanDisk (state g new) → KeepsCommit (state g old) (state g new)
+
 -- the content after this work of a transaction
 abbrev pub IsAfter : {S : Type 0} → Ghosts S → (Work : Held S → Held S → Type 0) → Held S → Trees → Type 0
 IsAfter {S} g Work old content = (last : Held S) × Work (record old { in_transaction = true }) last × (content ≡ (state g last).now.trees)

@@ -1,8 +1,8 @@
 //! A database as it is when its keeper begins.
-ghost use Rattle.std.specs.Prelude.{◌≡◌, ◌∷◌, [], false, map, IfOk, IsErrOf, OnOk, OnErr};
+ghost use Rattle.std.specs.Prelude.{◌≡◌, ◌∷◌, [], map, IfOk, IsErrOf, IsTrue, OnOk, OnErr};
 ghost use Rattle.sqlite.specs.Held.{state};
 ghost use Rattle.sqlite.specs.State.{HasCleanDisk};
-ghost use Rattle.octo_keeper_sql.specs.Kept.{IsAtomic, Unstored};
+ghost use Rattle.octo_keeper_sql.specs.Kept.{IsAtomic, IsUndone, KeepsLastCommit, Unstored};
 ghost use Rattle.octo_keeper_sql.specs.Loads.{Finds, Misread, Unanswered};
 ghost use Rattle.octo_keeper_sql.specs.Settled.{FailsToAdopt, FailsToSettle, FailsToUpgrade, FoundNumber, HasNoSchema, Settled, Settles, Upgraded, plain, queue_moved, tables_made};
 ghost use Rattle.octo_keeper_sql.specs.Statements.{FailsInTurn, InTransaction, Runs, entry_put};
@@ -23,6 +23,7 @@ use std::alloc::Global;
 // Runs a statement without parameters.
 fn run<S: Alter>(transaction: &mut Transaction<'_, S>, sql: &str) -> Result<(), KeeperFault>
     ensures stores { Unstored S.Store transaction.old.conn transaction.new.conn }
+    ensures kept { KeepsLastCommit S.Store transaction.old.conn.now transaction.new.conn.now }
     ensures ran { OnOk result (Runs S.Store (plain sql.now ∷ [])
         transaction.old.conn.now transaction.new.conn.now) }
     ensures failed { IsErrOf result fault.Failed → InTransaction S.Store
@@ -41,6 +42,8 @@ fn rows_of<S: Alter>(
     sql: &str,
 ) -> Result<Vec<Row>, KeeperFault>
     ensures stores { Unstored S.Store transaction.old.conn transaction.new.conn }
+    ensures kept { IsTrue transaction.old.conn.now.in_transaction
+        → KeepsLastCommit S.Store transaction.old.conn.now transaction.new.conn.now }
     ensures found { IfOk result (λ rows.
         Finds S.Store sql.now rows.items transaction.old.conn.now transaction.new.conn.now) }
     ensures failed { IsErrOf result fault.Failed → InTransaction S.Store
@@ -56,6 +59,8 @@ fn rows_of<S: Alter>(
 // The number of the schema, 0 if the database has none yet.
 fn schema_of<S: Alter>(transaction: &mut Transaction<'_, S>) -> Result<i64, KeeperFault>
     ensures stores { Unstored S.Store transaction.old.conn transaction.new.conn }
+    ensures kept { IsTrue transaction.old.conn.now.in_transaction
+        → KeepsLastCommit S.Store transaction.old.conn.now transaction.new.conn.now }
     ensures number { IfOk result (λ number. HasCleanDisk (state S.Store transaction.new.conn.now)
         → FoundNumber S.Store number transaction.old.conn.now transaction.new.conn.now) }
     ensures failed { IsErrOf result fault.Failed → InTransaction S.Store
@@ -71,9 +76,10 @@ fn schema_of<S: Alter>(transaction: &mut Transaction<'_, S>) -> Result<i64, Keep
 }
 
 // Makes the tables of the schema.
-#[tactic(auto, using(crate::proofs::Kept::unstored_then, crate::proofs::Kept::unstored_same))]
+#[tactic(auto, using(crate::proofs::Kept::unstored_then, crate::proofs::Kept::unstored_same, crate::proofs::Kept::commit_then, crate::proofs::Kept::commit_same))]
 fn make_tables<S: Alter>(transaction: &mut Transaction<'_, S>) -> Result<(), KeeperFault>
     ensures stores { Unstored S.Store transaction.old.conn transaction.new.conn }
+    ensures kept { KeepsLastCommit S.Store transaction.old.conn.now transaction.new.conn.now }
     ensures ran { OnOk result (Runs S.Store tables_made
         transaction.old.conn.now transaction.new.conn.now) }
     ensures failed { IsErrOf result fault.Failed → InTransaction S.Store
@@ -87,12 +93,13 @@ fn make_tables<S: Alter>(transaction: &mut Transaction<'_, S>) -> Result<(), Kee
 }
 
 // Adds entries.
-#[tactic(auto, using(crate::proofs::Kept::unstored_then, crate::proofs::Kept::unstored_same))]
+#[tactic(auto, using(crate::proofs::Kept::unstored_then, crate::proofs::Kept::unstored_same, crate::proofs::Kept::commit_then, crate::proofs::Kept::commit_same))]
 fn put_entries<S: Alter>(
     transaction: &mut Transaction<'_, S>,
     entries: &[QueueEntry],
 ) -> Result<(), KeeperFault>
     ensures stores { Unstored S.Store transaction.old.conn transaction.new.conn }
+    ensures kept { KeepsLastCommit S.Store transaction.old.conn.now transaction.new.conn.now }
     ensures ran { OnOk result (Runs S.Store (map entry_put entries.now)
         transaction.old.conn.now transaction.new.conn.now) }
     ensures failed { IsErrOf result fault.Failed → InTransaction S.Store
@@ -108,12 +115,13 @@ fn put_entries<S: Alter>(
 }
 
 // Brings these entries into the table that has the place of the queue of the schema before.
-#[tactic(auto, using(crate::proofs::Kept::unstored_then, crate::proofs::Kept::unstored_same))]
+#[tactic(auto, using(crate::proofs::Kept::unstored_then, crate::proofs::Kept::unstored_same, crate::proofs::Kept::commit_then, crate::proofs::Kept::commit_same))]
 fn move_queue<S: Alter>(
     transaction: &mut Transaction<'_, S>,
     entries: &[QueueEntry],
 ) -> Result<(), KeeperFault>
     ensures stores { Unstored S.Store transaction.old.conn transaction.new.conn }
+    ensures kept { KeepsLastCommit S.Store transaction.old.conn.now transaction.new.conn.now }
     ensures ran { OnOk result (Runs S.Store (queue_moved entries.now)
         transaction.old.conn.now transaction.new.conn.now) }
     ensures failed { IsErrOf result fault.Failed → InTransaction S.Store
@@ -127,12 +135,14 @@ fn move_queue<S: Alter>(
 }
 
 // Brings the queue of the schema before into the table that has its place now.
-#[tactic(auto, using(crate::proofs::Kept::unstored_then, crate::proofs::Kept::unstored_same))]
+#[tactic(auto, using(crate::proofs::Kept::unstored_then, crate::proofs::Kept::unstored_same, crate::proofs::Kept::commit_then, crate::proofs::Kept::commit_same))]
 fn upgrade_tables<S: Alter>(
     alloc: Global,
     transaction: &mut Transaction<'_, S>,
 ) -> Result<(), KeeperFault>
     ensures stores { Unstored S.Store transaction.old.conn transaction.new.conn }
+    ensures kept { IsTrue transaction.old.conn.now.in_transaction
+        → KeepsLastCommit S.Store transaction.old.conn.now transaction.new.conn.now }
     ensures ran { OnOk result (HasCleanDisk (state S.Store transaction.new.conn.now)
         → Upgraded S.Store transaction.old.conn.now transaction.new.conn.now) }
     ensures failed { IsErrOf result fault.Failed → InTransaction S.Store
@@ -146,9 +156,11 @@ fn upgrade_tables<S: Alter>(
 }
 
 // Brings the database to the schema that is kept.
-#[tactic(auto, using(crate::proofs::Kept::unstored_then, crate::proofs::Kept::unstored_same))]
+#[tactic(auto, using(crate::proofs::Kept::unstored_then, crate::proofs::Kept::unstored_same, crate::proofs::Kept::commit_then, crate::proofs::Kept::commit_same))]
 fn settle<S: Alter>(alloc: Global, transaction: &mut Transaction<'_, S>) -> Result<(), KeeperFault>
     ensures stores { Unstored S.Store transaction.old.conn transaction.new.conn }
+    ensures kept { IsTrue transaction.old.conn.now.in_transaction
+        → KeepsLastCommit S.Store transaction.old.conn.now transaction.new.conn.now }
     ensures settled { OnOk result (HasCleanDisk (state S.Store transaction.new.conn.now)
         → Settled S.Store transaction.old.conn.now transaction.new.conn.now) }
     ensures failed { IsErrOf result fault.Failed → InTransaction S.Store
@@ -173,8 +185,8 @@ pub(crate) fn settle_schema<S: Alter>(
         → Settles S.Store connection.old connection.new) }
     ensures failed { IsErrOf result fault.Failed → HasCleanDisk (state S.Store connection.new)
         → FailsToAdopt S.Store connection.old connection.new }
-    ensures ended { OnErr result
-        (connection.old.in_transaction ≡ false → connection.new.in_transaction ≡ false) }
+    ensures undone { OnErr result
+        (IsUndone (state S.Store connection.old) (state S.Store connection.new)) }
     ensures atomic { IsAtomic S.Store (Settled S.Store) connection.old connection.new }
 {
     if !connection.is_autocommit() {

@@ -23,10 +23,10 @@ pub struct NotAdopted<S: Alter + Drop> {
 }
 
 impl<S: Alter + Drop> SqlKeeper<S> {
-    ghost use Rattle.std.specs.Prelude.{◌≡◌, false, IfOk, IfErr, IsErrOf};
+    ghost use Rattle.std.specs.Prelude.{◌≡◌, IfOk, IfErr, IsErrOf};
     ghost use Rattle.sqlite.specs.Held.{state};
     ghost use Rattle.sqlite.specs.State.{HasCleanDisk};
-    ghost use Rattle.octo_keeper_sql.specs.Kept.{IsAtomic};
+    ghost use Rattle.octo_keeper_sql.specs.Kept.{IsAtomic, IsUndone};
     ghost use Rattle.octo_keeper_sql.specs.Settled.{FailsToAdopt, Settled, Settles};
     ghost use Rattle.octo_outside.specs.Recorded.{Counts};
     ghost use Rattle.octo_keeper.specs.declared.keeper.KeeperFault.TheVariants as fault;
@@ -43,8 +43,8 @@ impl<S: Alter + Drop> SqlKeeper<S> {
         ensures failed { IfErr result (λ refused. refused.fault ≡ fault.Failed
             → HasCleanDisk (state S.Store refused.connection)
             → FailsToAdopt S.Store connection refused.connection) }
-        ensures ended { IfErr result (λ refused. connection.in_transaction ≡ false
-            → refused.connection.in_transaction ≡ false) }
+        ensures undone { IfErr result (λ refused.
+            IsUndone (state S.Store connection) (state S.Store refused.connection)) }
         ensures adopted { IfOk result
             (λ keeper. IsAtomic S.Store (Settled S.Store) connection keeper.connection) }
         ensures refused { IfErr result

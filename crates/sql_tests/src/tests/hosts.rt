@@ -4,7 +4,7 @@ use super::single::empty_keeper;
 use byte_text::Name;
 use job_desk::State;
 use octo_access::digest_of;
-use octo_asks::{Answer, Ask, Request};
+use octo_asks::{Answer, Ask, Request, Upload};
 use octo_house::House;
 use octo_keeper::{Change, Keeper, MemoryShelf};
 use octo_outside::Blob;
@@ -98,7 +98,7 @@ fn request_of(rt: &impl Abort, alloc: Global, wish: Wish) -> Request {
         Wish::Connect => Request::Connect { port: None },
         Wish::Upload => Request::PutFile {
             name: name(rt, "a.gcode"),
-            bytes: Blob::from_slice(alloc, b"G28\n").expect(rt, "no memory"),
+            file: Upload::read(alloc, b"G28\n").expect(rt, "no memory"),
             select: false,
             print: false,
         },

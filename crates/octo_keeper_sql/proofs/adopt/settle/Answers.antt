@@ -6,7 +6,7 @@ use Rattle.sqlite.specs.State.{HasCleanDisk}
 use Rattle.octo_keeper_sql.specs.declared.schema.TheConstants.{CREATE_META, SELECT_SCHEMA}
 use Rattle.octo_keeper_sql.specs.Settled.{IsForeign, Settled, Upgraded, plain, tables_made}
 use Rattle.octo_keeper_sql.specs.Statements.{Runs}
-use Rattle.octo_keeper_sql.proofs.Kept.{unstored_clean}
+use Rattle.octo_keeper_sql.proofs.Kept.{commit_then, unstored_clean}
 use Rattle.octo_keeper_sql.proofs.Failures.{found_inside}
 use Rattle.octo_keeper_sql.proofs.Statements.{on_ok, ran_inside}
 use Rattle.octo_keeper_sql.proofs.adopt.settle.Goals as goal
@@ -62,6 +62,60 @@ returns-in-2-clause-settled g c read =
       found = c.in_ok-schema_of.ensures.number read;
       settled = inr (inr (is, refl));
     }
+
+-- the last commit, after the number was looked up
+pub returns-in_err-schema_of-clause-kept : goal.returns-in_err-schema_of-clause-kept
+returns-in_err-schema_of-clause-kept g c inside clean =
+    let a = c.args.transaction.now.conn in
+    let b = c.run.new.transaction.conn in
+    let d = c.schema_of.new.transaction.conn in
+    let ran = c.in_ok-run.ensures.ran (unstored_clean g.S.Store b d c.schema_of.ensures.stores clean) in
+    let still = ran_inside g.S.Store (plain CREATE_META.now ∷ []) a.now b.now ran inside in
+    commit_then g.S.Store a b d c.schema_of.ensures.stores c.run.ensures.kept (c.schema_of.ensures.kept still) clean
+
+pub returns-in-2-clause-kept : goal.returns-in-2-clause-kept
+returns-in-2-clause-kept g c inside clean =
+    let a = c.args.transaction.now.conn in
+    let b = c.run.new.transaction.conn in
+    let d = c.schema_of.new.transaction.conn in
+    let ran = c.in_ok-run.ensures.ran (unstored_clean g.S.Store b d c.schema_of.ensures.stores clean) in
+    let still = ran_inside g.S.Store (plain CREATE_META.now ∷ []) a.now b.now ran inside in
+    commit_then g.S.Store a b d c.schema_of.ensures.stores c.run.ensures.kept (c.schema_of.ensures.kept still) clean
+
+pub returns-in_default-clause-kept : goal.returns-in_default-clause-kept
+returns-in_default-clause-kept g c inside clean =
+    let a = c.args.transaction.now.conn in
+    let b = c.run.new.transaction.conn in
+    let d = c.schema_of.new.transaction.conn in
+    let ran = c.in_ok-run.ensures.ran (unstored_clean g.S.Store b d c.schema_of.ensures.stores clean) in
+    let still = ran_inside g.S.Store (plain CREATE_META.now ∷ []) a.now b.now ran inside in
+    commit_then g.S.Store a b d c.schema_of.ensures.stores c.run.ensures.kept (c.schema_of.ensures.kept still) clean
+
+pub returns-in-0-clause-kept : goal.returns-in-0-clause-kept
+returns-in-0-clause-kept g c inside clean =
+    let a = c.args.transaction.now.conn in
+    let b = c.run.new.transaction.conn in
+    let d = c.schema_of.new.transaction.conn in
+    let e = c.make_tables.new.transaction.conn in
+    let read = unstored_clean g.S.Store d e c.make_tables.ensures.stores clean in
+    let ran = c.in_ok-run.ensures.ran (unstored_clean g.S.Store b d c.schema_of.ensures.stores read) in
+    let still = ran_inside g.S.Store (plain CREATE_META.now ∷ []) a.now b.now ran inside in
+    commit_then g.S.Store a d e c.make_tables.ensures.stores
+    (commit_then g.S.Store a b d c.schema_of.ensures.stores c.run.ensures.kept (c.schema_of.ensures.kept still)) c.make_tables.ensures.kept clean
+
+pub returns-in-1-clause-kept : goal.returns-in-1-clause-kept
+returns-in-1-clause-kept g c inside clean =
+    let a = c.args.transaction.now.conn in
+    let b = c.run.new.transaction.conn in
+    let d = c.schema_of.new.transaction.conn in
+    let e = c.upgrade_tables.new.transaction.conn in
+    let read = unstored_clean g.S.Store d e c.upgrade_tables.ensures.stores clean in
+    let ran = c.in_ok-run.ensures.ran (unstored_clean g.S.Store b d c.schema_of.ensures.stores read) in
+    let still = ran_inside g.S.Store (plain CREATE_META.now ∷ []) a.now b.now ran inside in
+    let found = c.in_ok-schema_of.ensures.number read in
+    let later = found_inside g.S.Store SELECT_SCHEMA.now found.rows b.now d.now found.found still in
+    commit_then g.S.Store a d e c.upgrade_tables.ensures.stores
+    (commit_then g.S.Store a b d c.schema_of.ensures.stores c.run.ensures.kept (c.schema_of.ensures.kept still)) (c.upgrade_tables.ensures.kept later) clean
 
 pub returns-in_err-schema_of-clause-failed : goal.returns-in_err-schema_of-clause-failed
 returns-in_err-schema_of-clause-failed g c failed clean inside =

@@ -12,7 +12,7 @@ use Rattle.octo_keeper_sql.specs.Holds.{HoldsOldEntry}
 use Rattle.octo_keeper_sql.specs.Rows.{old_entry_row}
 use Rattle.octo_keeper_sql.specs.Upgrade.{upgraded}
 use Rattle.octo_keeper_sql.proofs.Failures.{found_inside}
-use Rattle.octo_keeper_sql.proofs.Kept.{unstored_clean}
+use Rattle.octo_keeper_sql.proofs.Kept.{commit_then, unstored_clean}
 use Rattle.octo_keeper_sql.proofs.Statements.{on_ok}
 use Rattle.octo_keeper_sql.proofs.adopt.upgrade_tables.Goals as goal
 
@@ -47,3 +47,7 @@ returns-clause-failed g c failed clean inside =
     let found = subst (λ (rows : List Row). Found g.S.Store SELECT_OLD_QUEUE.now rows a.now read.now) (sym (c.in_ok-old.ensures.ok ∙ c.as_slice.ensures.value)) (c.in_ok-rows.ensures.found (unstored_clean g.S.Store read f c.move_queue.ensures.stores clean)) in
     let still = found_inside g.S.Store SELECT_OLD_QUEUE.now (map old_entry_row olds) a.now read.now found inside in
     inr (olds, read.now, found, subst (λ list. FailsInTurn g.S.Store (queue_moved list) read.now f.now) new (c.move_queue.ensures.failed failed clean still))
+
+pub returns-clause-kept : goal.returns-clause-kept
+returns-clause-kept g c inside =
+    commit_then g.S.Store c.args.transaction.now.conn c.rows_of.new.transaction.conn c.move_queue.new.transaction.conn c.move_queue.ensures.stores (c.rows_of.ensures.kept inside) c.move_queue.ensures.kept

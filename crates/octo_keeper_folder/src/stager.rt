@@ -1,0 +1,87 @@
+//! What writes files beside those of a folder, and reads its files ahead.
+use crate::fetching::fetch_file;
+use crate::files::write_new;
+use crate::paths::{FilePath, part_in};
+use byte_text::Name;
+use octo_keeper::{Fetched, Stager};
+use std::alloc::Global;
+use std::fs;
+use std::rt::Files;
+
+/// A stager of a folder's shelf: its part is the file `.part-N` of the folder if N is its number. No file on a shelf has such a
+/// name.
+///
+/// A loss of power, or the end of the process, may leave that file. The next stager of this number removes it.
+#[derive(Drop)]
+pub struct FolderStager<R: Files + Drop> {
+    rt: R,
+    folder: Name,
+    part: FilePath,
+    number: u8,
+    // Whether the part may exist.
+    is_written: bool,
+}
+
+impl<R: Files + Drop> FolderStager<R> {
+    ghost use Rattle.std.specs.Prelude.{◌≡◌};
+    ghost use Rattle.octo_keeper_folder.specs.Paths.{part_in};
+
+    // The stager of that number in a folder; removes its part.
+    pub(crate) fn new(rt: R, folder: &Name, number: u8) -> Self
+        ensures number { result.number ≡ number }
+        ensures part { result.part.bytes ≡ part_in folder.now number }
+        ensures folder { result.folder ≡ folder.now }
+    {
+        let part = part_in(folder, number);
+        let _ = fs::remove_file(&rt, part.as_str());
+        FolderStager {
+            rt,
+            folder: folder.copy(),
+            part,
+            number,
+            is_written: false,
+        }
+    }
+}
+
+impl<R: Files + Drop> Stager for FolderStager<R> {
+    ghost use Rattle.std.specs.Prelude.{◌≡◌, false, None, IfSome};
+    ghost use Rattle.octo_access.specs.FileNames.{is_file_name};
+
+    ghost number = { λ s. s.number };
+
+    fn stage(&mut self, bytes: &[u8]) -> Option<u8>
+        ensures part { IfSome result (λ part. part ≡ self.old.number) }
+        ensures stays { self.new.number ≡ self.old.number }
+        ensures path { self.new.part ≡ self.old.part }
+        ensures folder { self.new.folder ≡ self.old.folder }
+    {
+        let _ = fs::remove_file(&self.rt, self.part.as_str());
+        self.is_written = true;
+        match write_new(&self.rt, self.part.as_str(), bytes) {
+            Ok(()) => Some(self.number),
+            Err(_) => None,
+        }
+    }
+
+    fn clear(&mut self)
+        ensures stays { self.new.number ≡ self.old.number }
+        ensures path { self.new.part ≡ self.old.part }
+        ensures folder { self.new.folder ≡ self.old.folder }
+    {
+        if self.is_written {
+            let _ = fs::remove_file(&self.rt, self.part.as_str());
+            self.is_written = false;
+        }
+    }
+
+    fn fetch(&mut self, alloc: Global, name: &Name) -> Option<Fetched>
+        ensures other { is_file_name name.now ≡ false → result ≡ None }
+        ensures name { IfSome result (λ fetched. fetched.name ≡ name.now) }
+        ensures stays { self.new.number ≡ self.old.number }
+        ensures path { self.new.part ≡ self.old.part }
+        ensures folder { self.new.folder ≡ self.old.folder }
+    {
+        fetch_file(alloc, &self.rt, &self.folder, name)
+    }
+}
