@@ -1,4 +1,5 @@
 //! What is read of an input, whole and byte by byte, what its pieces are, and what is replied.
+mod begun;
 mod chunks;
 mod cuts;
 mod heads;

@@ -10,9 +10,8 @@ ghost use Rattle.octo_api_requests.specs.Callers.{IsCallers};
 use crate::Direct;
 use crate::stored::stored_name;
 use octo_api_routes::{BodyFault, MediaFault};
-use octo_asks::Request;
+use octo_asks::{Request, Upload};
 use octo_http_forms::{PartFault, Parts, Span, multipart};
-use octo_outside::Blob;
 use std::alloc::Global;
 
 // The folder of a form, empty if it has none.
@@ -40,10 +39,10 @@ fn file_of(alloc: Global, body: &[u8], parts: Parts) -> Result<Request, Direct>
     };
     let folder = folder_of(body, parts.folder);
     let name = stored_name(alloc, folder, &body[name.from..name.to])?;
-    let bytes = Blob::from_slice(alloc, &body[file.from..file.to])?;
+    let file = Upload::read(alloc, &body[file.from..file.to])?;
     Ok(Request::PutFile {
         name,
-        bytes,
+        file,
         select: parts.select,
         print: parts.print,
     })

@@ -5,7 +5,7 @@ ghost use Rattle.octo_api_routes.specs.Wants.{verb_of, asked_by_get, asked_by_de
 use crate::direct::Methods;
 use crate::target::Target;
 use byte_text::Name;
-use octo_asks::Request;
+use octo_asks::{Request, Sought};
 
 // A method of the interface.
 #[derive(Clone, Copy, Debug, PartialEq, Eq)]
@@ -77,7 +77,9 @@ fn asked_by_get(target: &Target) -> Option<Request>
         Target::Job => Some(Request::GetJob),
         Target::AllFiles | Target::Files => Some(Request::ListFiles),
         Target::File { name } => Some(Request::GetFile { name: name.copy() }),
-        Target::Download { name } => Some(Request::Download { name: name.copy() }),
+        Target::Download { name } => Some(Request::Download {
+            name: Sought::new(name.copy()),
+        }),
         Target::Users => Some(Request::ListUsers),
         Target::Queue => Some(Request::ListQueue),
         Target::Prints => Some(Request::ListPrints),

@@ -1,25 +1,35 @@
 -- What a connection's input says to a worker, what is written in reply, and the calls that it leads to.
-use Rattle.std.specs.Prelude.{◌≡◌, ◌⊎◌, ℕ, ◌<◌, Bool, true, false, List, [], ◌∷◌, ◌++◌, take, codes, bytes_eq, if◌then◌else◌, Option, Some, None, Result, Ok, Err, IfSome}
+use Rattle.std.specs.Prelude.{◌≡◌, ◌⊎◌, ℕ, ◌<◌, Bool, true, false, List, [], ◌∷◌, ◌++◌, take, codes, bytes_eq, if◌then◌else◌, Option, Some, None, option_and_then, unwrap_or, Result, Ok, Err, IfSome}
 use Rattle.std.specs.Option.{option_map_or}
 use Rattle.arrayvec.specs.ArrayVec.{ArrayVec}
 use Rattle.octo_outside.specs.Recorded.{Adds, AddsPrefix, Rose}
 use Rattle.octo_outside_doors.specs.Doors.{ConnState, fresh_conn}
 use Rattle.octo_http.specs.declared.fault.MessageFault.{MessageFault}
 use Rattle.octo_http.specs.declared.fault.MessageFault.TheVariants.{ReadFault}
+use Rattle.octo_http.specs.declared.head.Head.{Head}
+use Rattle.octo_http.specs.declared.message.Begun.{Begun}
 use Rattle.octo_http.specs.declared.message.Message.{Message}
 use Rattle.octo_http.specs.declared.reply.HttpReply.{HttpReply}
-use Rattle.octo_http.specs.Message.{ReadsMessage, Answers, IsSlow}
+use Rattle.octo_http.specs.Head.{HeadFault}
+use Rattle.octo_http.specs.Stops.{IsFaultOf}
+use Rattle.octo_http.specs.Message.{is_long, IsOfHead, BeginsWith, Begins, ReadsMessage, Answers, IsSlow, HasWaited}
 use Rattle.octo_http.specs.Reply.{with_fields, reply_head, reply_bytes}
 use Rattle.octo_asks.specs.declared.answer.Answer.{Answer}
 use Rattle.octo_asks.specs.declared.answer.Answer.TheVariants as answer
 use Rattle.octo_asks.specs.declared.request.Ask.{Ask}
+use Rattle.octo_asks.specs.declared.request.Request.TheVariants as request
 use Rattle.octo_asks.specs.declared.entry.Entry.TheVariants as entry
 use Rattle.octo_asks.specs.History.{History}
 use Rattle.octo_api_page.specs.declared.page.Page.{Page}
 use Rattle.octo_api_page.specs.Pages.{page_of, page_bytes}
 use Rattle.octo_api_routes.specs.declared.direct.Direct.{Direct}
 use Rattle.octo_api_routes.specs.declared.shown.Shown.{Shown}
+use Rattle.octo_api_routes.specs.declared.shown.Shown.TheVariants.{Whole}
 use Rattle.octo_api_routes.specs.Shown.{shown_of}
+use Rattle.octo_api_routes.specs.Places.{target_of}
+use Rattle.octo_api_routes.specs.Wants.{wanted_of}
+use Rattle.octo_api_routes.specs.declared.wanted.Wanted.{Wanted}
+use Rattle.octo_api_routes.specs.declared.wanted.Wanted.TheVariants.{Nothing}
 use Rattle.octo_api_replies.specs.Shown.{shown_reply}
 use Rattle.octo_api_refusals.specs.Refused.{empty_reply, IsDirectReply, IsFaultReply}
 use Rattle.octo_api_requests.specs.Requests.{MessageReadsAs}
@@ -50,9 +60,9 @@ pub record HasCause (patience : ℕ) (conn : ConnState) (fault : MessageFault) :
 abbrev pub IsReply : Shown → Answer → HttpReply → Type 0
 IsReply shown answer reply = (reply ≡ shown_reply shown answer) ⊎ (reply ≡ empty_reply 507)
 
--- a message that asks for the head of a reply alone (RFC 9110, section 9.3.2)
-abbrev pub is_head : Message → Bool
-is_head message = bytes_eq message.method (codes "HEAD")
+-- a method that asks for the head of a reply alone (RFC 9110, section 9.3.2)
+abbrev pub is_head : List ℕ → Bool
+is_head method = bytes_eq method (codes "HEAD")
 
 -- the bytes of a reply, without the body if its head alone is asked for
 abbrev pub worker_bytes : Bool → WorkerReply → List ℕ
@@ -79,21 +89,93 @@ pub data IsReplied (origins : List (List ℕ)) (message : Message) : WorkerReply
       → more.items ≡ origin_lines (listed origins message.origin)
       → IsReplied origins message (by.Api reply more) true (entry.Call worker ask moment a ∷ [])
 
--- a connection with this input was served: it holds no message, or a message that is replied to
-pub data IsServed (terms : Terms) (input : List ℕ) (conn : ConnState) : Bool → History → Type 0 where
-  no_message : (fault : MessageFault) (sent bytes : List ℕ) → Answers input conn.left (Err fault) sent → HasCause terms.patience conn fault
-      → AreFaultBytes fault bytes → Wrote conn (sent ++ bytes) → IsServed terms input conn true []
-  message : (m : Message) (sent : List ℕ) (reply : WorkerReply) (is_open : Bool) (calls : History) → ReadsMessage input (Ok m) sent
-      → IsReplied terms.origins m reply is_open calls → Wrote conn (sent ++ worker_bytes (is_head m) reply) → IsServed terms input conn is_open calls
+-- whether what is wanted needs a key that names somebody before the message is read further: a download, or anything if its body is long
+abbrev pub needs_key_for : Bool → Option Wanted → Bool
+needs_key_for long None = false
+needs_key_for long (Some (Nothing (request.Download name))) = true
+needs_key_for long (Some wanted) = long
 
--- the calls that a connection led to: none, or one with a caller's request
+-- whether a message is read further only if its key names somebody
+abbrev pub needs_key : Head → Bool
+needs_key head =
+    needs_key_for (is_long head.framing) (option_and_then (λ target. wanted_of head.method target) (target_of head.path))
+
+-- the ask whom a key names, which is empty if there is none
+abbrev pub whom_ask : Option (List ℕ) → Ask
+whom_ask key = record { key = unwrap_or key []; request = request.Caller }
+
+-- the ask that comes before a message is read further, none if it needs no key
+abbrev pub IsFirstAsk : Head → Option Ask → Type 0
+IsFirstAsk head None = needs_key head ≡ false
+IsFirstAsk head (Some ask) = (needs_key head ≡ true) × (ask ≡ whom_ask head.key)
+
+-- the answer with which a message is refused, if it isn't known that its key names somebody
+abbrev pub refusal_of : Answer → Option Answer
+refusal_of (answer.Caller (Some name) groups) = None
+refusal_of (answer.Caller None groups) = Some (answer.Denied None)
+refusal_of other = Some other
+
+-- the calls before a message is read further: none if it needs no key, else one by which it is known that the key names somebody
+pub data Admits (head : Head) : History → Type 0 where
+  no_key : needs_key head ≡ false → Admits head []
+  known_key : (worker moment : ℕ) (a : Answer) → needs_key head ≡ true → refusal_of a ≡ None
+      → Admits head (entry.Call worker (whom_ask head.key) moment a ∷ [])
+
+-- the reply to a message by its head alone, with an answer of the host
+abbrev pub RepliesWith : List (List ℕ) → Head → Answer → WorkerReply → Type 0
+RepliesWith origins head a reply =
+    (r : HttpReply) × (more : ArrayVec ℕ) × (reply ≡ by.Api r more) × IsReply Whole a r × (more.items ≡ origin_lines (listed origins head.origin))
+
+-- the reply to a message that isn't read further, whether the host hasn't ended, and the calls before
+pub data IsTurnedAway (origins : List (List ℕ)) (head : Head) : WorkerReply → Bool → History → Type 0 where
+  by_key : (worker moment : ℕ) (a refusal : Answer) (reply : WorkerReply) → needs_key head ≡ true → refusal_of a ≡ Some refusal
+      → RepliesWith origins head refusal reply
+      → IsTurnedAway origins head reply true (entry.Call worker (whom_ask head.key) moment a ∷ [])
+  by_end : (reply : WorkerReply) → needs_key head ≡ true → RepliesWith origins head answer.Closed reply → IsTurnedAway origins head reply false []
+  by_memory : (reply : WorkerReply) → RepliesWith origins head answer.NoMemory reply → IsTurnedAway origins head reply true []
+
+-- A connection with this input was served.
+pub data IsServed (terms : Terms) (input : List ℕ) (conn : ConnState) : Bool → History → Type 0 where
+  -- it holds no head
+  no_head : (fault : MessageFault) (bytes : List ℕ) → IsFaultOf HeadFault input conn.left fault → HasCause terms.patience conn fault
+      → AreFaultBytes fault bytes → Wrote conn bytes → IsServed terms input conn true []
+  -- it needs a key, and its caller isn't known
+  turned_away : (head : Head) (reply : WorkerReply) (is_open : Bool) (calls : History) → BeginsWith input head
+      → IsTurnedAway terms.origins head reply is_open calls → Wrote conn (worker_bytes (is_head head.method) reply)
+      → IsServed terms input conn is_open calls
+  -- it holds no whole message
+  no_message : (head : Head) (first : History) (fault : MessageFault) (sent bytes : List ℕ) → BeginsWith input head → Admits head first
+      → Answers input conn.left (Err fault) sent → HasCause terms.patience conn fault → AreFaultBytes fault bytes → Wrote conn (sent ++ bytes)
+      → IsServed terms input conn true first
+  -- it holds a message, which is replied to
+  message : (head : Head) (first : History) (m : Message) (sent : List ℕ) (reply : WorkerReply) (is_open : Bool) (calls : History)
+      → BeginsWith input head → Admits head first → IsOfHead head m → ReadsMessage input (Ok m) sent → IsReplied terms.origins m reply is_open calls
+      → Wrote conn (sent ++ worker_bytes (is_head m.method) reply) → IsServed terms input conn is_open (first ++ calls)
+
+-- the head of a connection's input was read, and nothing was written
+pub record HasBegun (terms : Terms) (input : List ℕ) (conn : ConnState) (begun : Begun) : Type 0 where
+  pub begins : Begins input conn.left begun
+  pub written : conn.written ≡ Some []
+  pub waited : HasWaited 0 begun conn.quiets
+  pub patience : begun.intake.patience ≡ terms.patience
+
+-- no call, or one that asks whom a key names
+pub data AsksWhom : History → Type 0 where
+  unasked : AsksWhom []
+  asked_whom : (worker moment : ℕ) (key : Option (List ℕ)) (a : Answer) → AsksWhom (entry.Call worker (whom_ask key) moment a ∷ [])
+
+-- the calls that a message led to: none, or one with a caller's request
 pub data LeadsTo : History → Type 0 where
   no_call : LeadsTo []
   one_call : (worker moment : ℕ) (ask : Ask) (a : Answer) → IsCallers ask.request → LeadsTo (entry.Call worker ask moment a ∷ [])
 
--- a connection was served, whatever it records, and led to at most one call
+-- a message led to at most one call
+abbrev pub AsksForMessage : Option History → Option History → Type 0
+AsksForMessage mine mine' = (calls : History) × LeadsTo calls × Adds mine mine' calls
+
+-- a connection was served, whatever it records, and led to at most one call, after at most one that asks whom the key names
 abbrev pub AsksOnce : Option History → Option History → Type 0
-AsksOnce mine mine' = (calls : History) × LeadsTo calls × Adds mine mine' calls
+AsksOnce mine mine' = (first : History) × (calls : History) × AsksWhom first × LeadsTo calls × Adds mine mine' (first ++ calls)
 
 -- an untouched connection was served, and the asker's calls grew by those that it led to
 abbrev pub HasServed : Terms → (old new : ConnState) → (mine mine' : Option History) → Bool → Type 0

@@ -11,6 +11,7 @@ use crate::serve::serve_conn;
 use crate::terms::Terms;
 use octo_api_routes::Routes;
 use octo_asks::{Ask, Asker, Request};
+use octo_keeper::Stager;
 use octo_outside::{Blob, Failed};
 use octo_outside_doors::{Door, Knock};
 use std::alloc::Global;
@@ -30,11 +31,12 @@ pub(crate) enum Visit {
 }
 
 // Looks at the door, and serves the connection that has come.
-fn look_at_door<D: Door, A: Asker>(
+fn look_at_door<D: Door, A: Asker, P: Stager>(
     alloc: Global,
     routes: &Routes,
     door: &mut D,
     asker: &mut A,
+    stager: &mut P,
     terms: &Terms,
 ) -> Visit
     ensures visited { (inputs : List (List ℕ)) → D.coming door.old ≡ Some inputs
@@ -50,7 +52,7 @@ fn look_at_door<D: Door, A: Asker>(
         return Visit::Closed;
     }
     match door.accept() {
-        Ok(Knock::Conn(conn)) => serve_and_finish(alloc, routes, door, conn, asker, terms),
+        Ok(Knock::Conn(conn)) => serve_and_finish(alloc, routes, door, conn, asker, stager, terms),
         Ok(Knock::Quiet) => Visit::Open,
         Ok(Knock::Ended) => Visit::Ended,
         Err(Failed) => Visit::Failed,
@@ -58,12 +60,13 @@ fn look_at_door<D: Door, A: Asker>(
 }
 
 // Serves a connection and returns it to the door.
-fn serve_and_finish<D: Door, A: Asker>(
+fn serve_and_finish<D: Door, A: Asker, P: Stager>(
     alloc: Global,
     routes: &Routes,
     door: &mut D,
     conn: D::Conn,
     asker: &mut A,
+    stager: &mut P,
     terms: &Terms,
 ) -> Visit
     ensures served { (input : List ℕ)
@@ -80,7 +83,7 @@ fn serve_and_finish<D: Door, A: Asker>(
     ensures faults { D.faults door.new ≡ D.faults door.old }
 {
     let mut conn = conn;
-    let is_open = serve_conn(alloc, routes, &mut conn, asker, terms);
+    let is_open = serve_conn(alloc, routes, &mut conn, asker, stager, terms);
     door.finish(conn);
     if is_open { Visit::Open } else { Visit::Closed }
 }
@@ -107,13 +110,14 @@ fn leave<A: Asker>(alloc: Global, asker: &mut A)
 /// Serves the connections of a door until no more come, the door fails or the host has ended. Returns whether the door held.
 ///
 /// It leaves by an ask of its own if the door has ended or failed. It waits at its door and for its answers. It only reads
-/// the table of routes, which several workers may share.
-pub fn worker<R: Wait, D: Door, A: Asker>(
+/// the table of routes, which several workers may share. Its stager writes the files of uploads.
+pub fn worker<R: Wait, D: Door, A: Asker, P: Stager>(
     rt: &R,
     alloc: Global,
     routes: &Routes,
     door: &mut D,
     asker: &mut A,
+    stager: &mut P,
     terms: &Terms,
 ) -> bool
     // The connections of a door that records them are served one after the other.
@@ -131,7 +135,7 @@ pub fn worker<R: Wait, D: Door, A: Asker>(
     ensures failed { result ≡ false → Rose (D.faults door.old) (D.faults door.new) }
 {
     for _ in rt.forever() {
-        match look_at_door(alloc, routes, door, asker, terms) {
+        match look_at_door(alloc, routes, door, asker, stager, terms) {
             Visit::Open => {}
             Visit::Closed => return true,
             Visit::Ended => {

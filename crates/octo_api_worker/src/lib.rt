@@ -4,10 +4,12 @@
 //! Source: RFC 9112 for messages and replies; OctoPrint's REST API for what they say.
 #![tactic(auto)]
 
+mod admit;
 mod at_door;
 mod origins;
 mod reply;
 mod serve;
+mod staging;
 mod terms;
 
 pub use at_door::worker;

@@ -8,8 +8,8 @@ ghost use Rattle.octo_api_worker.specs.Origins.{origin_in, listed, field_line, a
 use byte_text::{Name, append};
 use octo_api_refusals::methods_text;
 use octo_api_routes::{Direct, Methods};
-use octo_http::{FieldLines, Message};
-use octo_outside::NameList;
+use octo_http::FieldLines;
+use octo_outside::{Blob, NameList};
 
 // The origin of the list that is this text.
 fn origin_in(origins: &NameList, text: &[u8]) -> Option<Name>
@@ -24,10 +24,10 @@ fn origin_in(origins: &NameList, text: &[u8]) -> Option<Name>
 }
 
 // The origin of a message, if it is in the list.
-pub(crate) fn listed(origins: &NameList, message: &Message) -> Option<Name>
-    ensures { result ≡ listed origins.now message.now.origin }
+pub(crate) fn listed(origins: &NameList, origin: &Option<Blob>) -> Option<Name>
+    ensures { result ≡ listed origins.now origin.now }
 {
-    match &message.origin {
+    match origin {
         Some(origin) => origin_in(origins, origin.as_slice()),
         None => None,
     }

@@ -11,6 +11,7 @@ ghost use Rattle.octo_api_worker.specs.Origins.{listed};
 ghost use Rattle.octo_api_worker.specs.Served.{IsReply, IsOfApi, IsReplied};
 
 use crate::origins::{direct_lines, listed, origin_lines};
+use crate::staging::ask_staged;
 use byte_text::Name;
 use octo_api_page::{Page, page_of};
 use octo_api_refusals::{direct_bytes, out_of_memory};
@@ -19,6 +20,7 @@ use octo_api_requests::request_by;
 use octo_api_routes::{Routes, Shown, shown_of};
 use octo_asks::{Answer, Ask, Asker, Closed};
 use octo_http::{FieldLines, HttpReply, Message};
+use octo_keeper::Stager;
 use octo_outside::NameList;
 use std::alloc::{AllocError, Global};
 
@@ -39,7 +41,7 @@ pub(crate) struct Replied {
 }
 
 // The reply to an answer, of which its path shows this, or 507 if memory ran out.
-fn reply_to(alloc: Global, shown: Shown, answer: Answer) -> HttpReply
+pub(crate) fn reply_to(alloc: Global, shown: Shown, answer: Answer) -> HttpReply
     ensures { IsReply shown answer result }
 {
     match shown_bytes(alloc, shown, answer) {
@@ -49,9 +51,10 @@ fn reply_to(alloc: Global, shown: Shown, answer: Answer) -> HttpReply
 }
 
 // Asks, and returns the reply to the answer, for pages of this origin.
-fn reply_to_ask<A: Asker>(
+fn reply_to_ask<A: Asker, P: Stager>(
     alloc: Global,
     asker: &mut A,
+    stager: &mut P,
     shown: Shown,
     origin: &Option<Name>,
     ask: Ask,
@@ -65,7 +68,7 @@ fn reply_to_ask<A: Asker>(
     ensures seen { A.saw_close asker.old ≡ true → A.saw_close asker.new ≡ true }
     ensures place { A.place asker.new ≡ A.place asker.old }
 {
-    match asker.ask(ask) {
+    match ask_staged(alloc, asker, stager, ask) {
         Ok(answer) => Replied {
             reply: WorkerReply::Api {
                 reply: reply_to(alloc, shown, answer),
@@ -85,10 +88,11 @@ fn reply_to_ask<A: Asker>(
 
 // Asks what a message of the REST API says, if it says a request, and returns the reply. The path shows this of an answer,
 // and pages of this origin may read it.
-fn reply_to_shown<A: Asker>(
+fn reply_to_shown<A: Asker, P: Stager>(
     alloc: Global,
     routes: &Routes,
     asker: &mut A,
+    stager: &mut P,
     shown: Shown,
     origin: &Option<Name>,
     message: Message,
@@ -102,7 +106,7 @@ fn reply_to_shown<A: Asker>(
     ensures place { A.place asker.new ≡ A.place asker.old }
 {
     match request_by(alloc, routes, message) {
-        Ok(ask) => reply_to_ask(alloc, asker, shown, origin, ask),
+        Ok(ask) => reply_to_ask(alloc, asker, stager, shown, origin, ask),
         Err(direct) => Replied {
             reply: WorkerReply::Api {
                 reply: direct_bytes(alloc, &direct),
@@ -121,11 +125,12 @@ fn shown_for(alloc: Global, routes: &Routes, message: &Message) -> Result<Shown,
 }
 
 // The same for each message of the REST API.
-fn reply_to_request<A: Asker>(
+fn reply_to_request<A: Asker, P: Stager>(
     alloc: Global,
     routes: &Routes,
     origins: &NameList,
     asker: &mut A,
+    stager: &mut P,
     message: Message,
 ) -> Replied
     ensures replied { IsOfApi message → (calls : History)
@@ -135,9 +140,9 @@ fn reply_to_request<A: Asker>(
     ensures seen { A.saw_close asker.old ≡ true → A.saw_close asker.new ≡ true }
     ensures place { A.place asker.new ≡ A.place asker.old }
 {
-    let origin = listed(origins, &message);
+    let origin = listed(origins, &message.origin);
     match shown_for(alloc, routes, &message) {
-        Ok(shown) => reply_to_shown(alloc, routes, asker, shown, &origin, message),
+        Ok(shown) => reply_to_shown(alloc, routes, asker, stager, shown, &origin, message),
         Err(AllocError) => Replied {
             reply: WorkerReply::Api {
                 reply: out_of_memory(alloc),
@@ -156,11 +161,12 @@ fn page_for(message: &Message) -> Option<Page>
 }
 
 // The reply to a message: a path of the page is replied to without asking.
-pub(crate) fn reply_to_message<A: Asker>(
+pub(crate) fn reply_to_message<A: Asker, P: Stager>(
     alloc: Global,
     routes: &Routes,
     origins: &NameList,
     asker: &mut A,
+    stager: &mut P,
     message: Message,
 ) -> Replied
     ensures replied { (calls : History) × Adds (A.mine asker.old) (A.mine asker.new) calls
@@ -174,6 +180,6 @@ pub(crate) fn reply_to_message<A: Asker>(
             reply: WorkerReply::Page { page },
             is_open: true,
         },
-        None => reply_to_request(alloc, routes, origins, asker, message),
+        None => reply_to_request(alloc, routes, origins, asker, stager, message),
     }
 }

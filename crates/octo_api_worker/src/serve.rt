@@ -1,18 +1,23 @@
 //! One connection: a message, and its reply.
-ghost use Rattle.std.specs.Prelude.{◌≡◌, ◌≤◌, ℕ, List, true, false};
+ghost use Rattle.std.specs.Prelude.{◌≡◌, ◌≤◌, ◌++◌, ℕ, List, true, false};
+ghost use Rattle.octo_outside.specs.Recorded.{Adds};
 ghost use Rattle.octo_outside_doors.specs.Doors.{state_of};
 ghost use Rattle.octo_http.specs.Reply.{with_fields, reply_head, reply_bytes};
-ghost use Rattle.octo_api_worker.specs.Served.{Sends, HasServed, AsksOnce, AreFaultBytes, is_head, worker_bytes};
+ghost use Rattle.octo_asks.specs.History.{History};
+ghost use Rattle.octo_api_worker.specs.Served.{Sends, Admits, IsServed, HasBegun, HasServed, AsksForMessage, AsksOnce, AreFaultBytes, is_head, worker_bytes};
 
+use crate::admit::turn_away;
 use crate::reply::{WorkerReply, reply_to_message};
 use crate::terms::Terms;
+use http::Method;
 use octo_api_page::page_bytes;
 use octo_api_refusals::fault_bytes;
 use octo_api_routes::Routes;
 use octo_asks::Asker;
 use octo_http::{
-    FieldLines, HttpReply, Message, MessageFault, read_message, write_head, write_reply,
+    Begun, FieldLines, HttpReply, MessageFault, read_begin, read_rest, write_head, write_reply,
 };
+use octo_keeper::Stager;
 use octo_outside::{Conn, Failed, send_all};
 use std::alloc::Global;
 
@@ -57,11 +62,11 @@ fn send_or_ignore<C: Conn>(conn: &mut C, bytes: &[u8])
     }
 }
 
-// Whether a message asks for the head of a reply alone. Source: RFC 9110, section 9.3.2.
-fn is_head(message: &Message) -> bool
-    ensures { result ≡ is_head message.now }
+// Whether a method asks for the head of a reply alone. Source: RFC 9110, section 9.3.2.
+fn is_head(method: &Method) -> bool
+    ensures { result ≡ is_head method.now }
 {
-    message.method.as_str() == "HEAD"
+    method.as_str() == "HEAD"
 }
 
 // Writes the reply of the REST API.
@@ -108,23 +113,92 @@ fn refuse<C: Conn>(alloc: Global, conn: &mut C, fault: &MessageFault)
     }
 }
 
-/// Reads one message of a connection, asks what it says and writes the reply. Returns whether the host hasn't ended. The page for
-/// browsers is shown without asking.
-///
-/// It waits through as many quiet reads as the terms say. If memory runs out, the reply to a request is 507, and that to a refused
-/// message or a fault has no body. The reply to a HEAD of the REST API has no body either.
-pub fn serve_conn<C: Conn, A: Asker>(
+// Reads the rest of a message, asks what it says and writes the reply. Returns whether the host hasn't ended.
+fn serve_rest<C: Conn, A: Asker, P: Stager>(
     alloc: Global,
     routes: &Routes,
     conn: &mut C,
     asker: &mut A,
+    stager: &mut P,
+    terms: &Terms,
+    begun: Begun,
+) -> bool
+    ensures served { (input : List ℕ) → (first : History)
+        → HasBegun terms.now input (state_of C.left C.written C.faults C.quiets conn.old) begun
+        → Admits begun.head first
+        → (calls : History) × Adds (A.mine asker.old) (A.mine asker.new) calls
+        × IsServed terms.now input (state_of C.left C.written C.faults C.quiets conn.new) result
+        (first ++ calls) }
+    ensures once { AsksForMessage (A.mine asker.old) (A.mine asker.new) }
+    ensures closed { result ≡ false → A.saw_close asker.new ≡ true }
+    ensures seen { A.saw_close asker.old ≡ true → A.saw_close asker.new ≡ true }
+    ensures place { A.place asker.new ≡ A.place asker.old }
+{
+    match read_rest(alloc, conn, begun) {
+        Ok(message) => {
+            let head_alone = is_head(&message.method);
+            let replied = reply_to_message(alloc, routes, &terms.origins, asker, stager, message);
+            write_worker_reply(conn, &replied.reply, head_alone);
+            replied.is_open
+        }
+        Err(fault) => {
+            refuse(alloc, conn, &fault);
+            true
+        }
+    }
+}
+
+// Serves a connection whose message has begun: if it needs a key, it is read further only if the caller is known.
+fn serve_begun<C: Conn, A: Asker, P: Stager>(
+    alloc: Global,
+    routes: &Routes,
+    conn: &mut C,
+    asker: &mut A,
+    stager: &mut P,
+    terms: &Terms,
+    begun: Begun,
+) -> bool
+    ensures served { (input : List ℕ)
+        → HasBegun terms.now input (state_of C.left C.written C.faults C.quiets conn.old) begun
+        → (calls : History) × Adds (A.mine asker.old) (A.mine asker.new) calls
+        × IsServed terms.now input (state_of C.left C.written C.faults C.quiets conn.new) result
+        calls }
+    ensures once { AsksOnce (A.mine asker.old) (A.mine asker.new) }
+    ensures closed { result ≡ false → A.saw_close asker.new ≡ true }
+    ensures seen { A.saw_close asker.old ≡ true → A.saw_close asker.new ≡ true }
+    ensures place { A.place asker.new ≡ A.place asker.old }
+{
+    match turn_away(alloc, routes, &terms.origins, asker, &begun.head) {
+        Some(replied) => {
+            let head_alone = is_head(&begun.head.method);
+            write_worker_reply(conn, &replied.reply, head_alone);
+            replied.is_open
+        }
+        None => serve_rest(alloc, routes, conn, asker, stager, terms, begun),
+    }
+}
+
+/// Reads one message of a connection, asks what it says and writes the reply. Returns whether the host hasn't ended. The page for
+/// browsers is shown without asking. A message whose body has more than 4,096 bytes or is in chunks, or that asks for a download, is
+/// read further only if its key names somebody, which is asked first; else the reply is 403, and the rest of the input is left. The
+/// file of an upload is given to the stager before the host is asked.
+///
+/// It waits through as many quiet reads as the terms say. If memory runs out, the reply to a request is 507, and that to a refused
+/// message or a fault has no body. The reply to a HEAD of the REST API has no body either.
+pub fn serve_conn<C: Conn, A: Asker, P: Stager>(
+    alloc: Global,
+    routes: &Routes,
+    conn: &mut C,
+    asker: &mut A,
+    stager: &mut P,
     terms: &Terms,
 ) -> bool
     ensures served { HasServed terms.now (state_of C.left C.written C.faults C.quiets conn.old)
         (state_of C.left C.written C.faults C.quiets conn.new)
         (A.mine asker.old) (A.mine asker.new) result }
 
-    // Whatever the connection records, it leads to at most one call, of a caller's request.
+    // Whatever the connection records, it leads to at most one call, of a caller's request, after at most one that asks whom
+    // the key names.
     ensures once { AsksOnce (A.mine asker.old) (A.mine asker.new) }
 
     // Only a host that has ended is seen to have, and what was seen stays.
@@ -132,15 +206,10 @@ pub fn serve_conn<C: Conn, A: Asker>(
     ensures seen { A.saw_close asker.old ≡ true → A.saw_close asker.new ≡ true }
     ensures place { A.place asker.new ≡ A.place asker.old }
 {
-    match read_message(alloc, conn, terms.patience) {
-        Ok(message) => {
-            let head_alone = is_head(&message);
-            let replied = reply_to_message(alloc, routes, &terms.origins, asker, message);
-            write_worker_reply(conn, &replied.reply, head_alone);
-            replied.is_open
-        }
-        Err(fault) => {
-            refuse(alloc, conn, &fault);
+    match read_begin(alloc, conn, terms.patience) {
+        Ok(begun) => serve_begun(alloc, routes, conn, asker, stager, terms, begun),
+        Err(no_head) => {
+            refuse(alloc, conn, &no_head);
             true
         }
     }

@@ -4,4 +4,5 @@ pub mod Memory
 pub mod Place
 pub mod Rights
 pub mod Shown
+pub mod Uploads
 pub mod Waiting

@@ -138,12 +138,12 @@ impl Request {
             },
             Request::PutFile {
                 name,
-                bytes,
+                file,
                 select,
                 print,
             } => Request::PutFile {
                 name: name.copy(),
-                bytes: copy_blob(alloc, bytes)?,
+                file: file.copy(alloc)?,
                 select: *select,
                 print: *print,
             },

@@ -11,6 +11,8 @@ mod memory_counter;
 mod request;
 mod rights;
 mod shown;
+mod sought;
+mod upload;
 
 pub use answer::{Answer, PrintRefusal, StoredCause};
 pub use asker::{Asker, Closed};
@@ -23,3 +25,5 @@ pub use shown::{
     Progress, ShownEntry, ShownEntryList, ShownFile, ShownFileList, ShownHeat, ShownPrint,
     ShownPrintList, ShownUser, ShownUserList,
 };
+pub use sought::Sought;
+pub use upload::Upload;

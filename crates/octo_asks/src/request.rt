@@ -1,4 +1,5 @@
 //! What a print host is asked.
+use crate::{Sought, Upload};
 use byte_text::Name;
 use octo_access::GroupNames;
 use octo_outside::{Blob, ItemList};
@@ -72,7 +73,7 @@ pub enum Request {
     /// To store a file, and to select and print it if that is asked.
     PutFile {
         name: Name,
-        bytes: Blob,
+        file: Upload,
         select: bool,
         print: bool,
     },
@@ -87,7 +88,7 @@ pub enum Request {
     },
     /// The bytes of a file.
     Download {
-        name: Name,
+        name: Sought,
     },
     /// All users but the admin (Access control).
     ListUsers,

@@ -1,21 +1,23 @@
 -- How a head, `100 Continue` and a body make an answer.
 use Rattle.std.proofs.Common.{◌≡◌, ℕ, zero, suc, ◌≤◌, Bool, true, false, ◌&&◌, List, [], ◌++◌, length, take, Option, Some, Result, Ok, Err, refl, sym, ap, ◌∙◌, subst, append_assoc, arith, inl, inr}
-use Rattle.std.specs.Prelude.{if◌then◌else◌}
+use Rattle.std.specs.Prelude.{if◌then◌else◌, IfErr, ◌<◌, ◌+◌}
 use Rattle.std.specs.Result.{IsErrAnd}
-use Rattle.octo_outside.specs.Recorded.{Adds, AddsPrefix, Rose}
+use Rattle.octo_outside.specs.Recorded.{Adds, AddsPrefix, Rose, last_count}
 use Rattle.octo_outside.proofs.Recorded.{became_so, adds_none}
 use Rattle.octo_http.specs.Input.{IntakeData, Holds, Took, Waits}
 use Rattle.octo_http.specs.Stops.{Unfinished, IsFaultOf, Stops, IsShort, HasCause}
 use Rattle.octo_http.specs.Head.{IsHead, HeadFault}
 use Rattle.octo_http.specs.Chunks as chunks
-use Rattle.octo_http.specs.Message.{has_body, continue_line, continue_due, message_of, ReadsBody, no_body, whole, short, in_chunks, IsBodyFault, message, no_head, bad_body, IsUnfinished, Answers, Writes, IsSlow, IsPatient}
+use Rattle.octo_http.specs.Message.{has_body, continue_line, continue_due, message_of, ReadsBody, no_body, whole, short, in_chunks, IsBodyFault, message, no_head, bad_body, Begins, IsUnfinished, Answers, Writes, IsSlow, IsPatient, HasWaited}
 use Rattle.octo_http.specs.declared.fault.MessageFault.{MessageFault}
 use Rattle.octo_http.specs.declared.fault.MessageFault.TheVariants.{BadHead, HeadTooLarge, BodyTooLarge, BadChunk, Ended, ReadFault, NoMemory, Slow}
 use Rattle.octo_http.specs.declared.framing.Framing.{Framing}
 use Rattle.octo_http.specs.declared.framing.Framing.TheVariants.{NoBody, Length, Chunked}
 use Rattle.octo_http.specs.declared.head.Head.{Head}
 use Rattle.octo_http.specs.declared.message.Message.{Message}
-use Rattle.octo_http.proofs.Reading.{took_none, waits_then}
+use Rattle.octo_http.specs.declared.message.Begun.{Begun}
+use Rattle.octo_http.proofs.Reading.{took_none}
+use Rattle.octo_http.proofs.Filling.{on_exit}
 use Rattle.octo_http.proofs.ChunkLemmas.{stops_after}
 
 -- the error that a result is
@@ -149,41 +151,17 @@ pub bounded_none : (old new : Option (List ℕ)) → Adds old new [] → AddsPre
 bounded_none old new adds =
     became_so old new (λ _ added. added ≡ []) (λ _ added. (n : ℕ) × (added ≡ take n continue_line)) adds (λ past added is. (0, is))
 
--- reads of a head and then of a body
-pub waits_both : (a b c : IntakeData) (f0 f1 f2 f3 q0 q1 q2 q3 : ℕ) → Waits a b f0 f1 q0 q1 → q2 ≡ q1 → f1 ≤ f2 → Waits b c f2 f3 q2 q3
-    → Waits a c f0 f3 q0 q3
-waits_both a b c f0 f1 f2 f3 q0 q1 q2 q3 first same more second =
-    waits_then a b c f0 f2 f3 q0 q2 q3
-    (record {
-      same = first.same;
-      fewer = first.fewer;
-      quiet = omega (arith, first.quiet, same);
-      counted = λ below. omega (arith, first.counted (omega (arith, below, same)), same);
-      kept = omega (arith, first.kept, more);
-    })
-    second
-
--- a message is read with patience
-pub patient_ok : (patience : ℕ) (i : IntakeData) (f0 f1 q0 q1 : ℕ) (m : Message)
-    → Waits (record { bytes = []; patience = patience; allowed = patience }) i f0 f1 q0 q1 → IsPatient patience q0 q1 (Ok m)
-patient_ok patience i f0 f1 q0 q1 m waits =
-    record { more = waits.quiet; most = λ below. omega (arith, waits.counted below); slow = tt }
-
--- and so is a fault
-pub patient_err : (patience : ℕ) (i : IntakeData) (f0 f1 g q0 q1 : ℕ) (e : MessageFault)
-    → Waits (record { bytes = []; patience = patience; allowed = patience }) i f0 f1 q0 q1 → HasCause i g f1 e → IsPatient patience q0 q1 (Err e)
-patient_err patience i f0 f1 g q0 q1 e waits cause =
-    record { more = waits.quiet; most = λ below. omega (arith, waits.counted below); slow = by e cause }
-  where
-    by : (f : MessageFault) → HasCause i g f1 f → IsSlow patience q0 q1 f
-    by BadHead h = tt
-    by HeadTooLarge h = tt
-    by BodyTooLarge h = tt
-    by BadChunk h = tt
-    by Ended h = tt
-    by ReadFault h = tt
-    by NoMemory h = tt
-    by (Slow n) h = (h.0 ∙ waits.same, λ below. omega (arith, waits.counted below, h.1))
+-- a fault that a reader stops at, by its count of quiet reads
+slow_by : (p q0 q1 g f1 : ℕ) (i : IntakeData) (f : MessageFault) → i.patience ≡ p → (q1 < last_count → q1 + i.allowed ≡ q0 + p) → HasCause i g f1 f
+    → IsSlow p q0 q1 f
+slow_by p q0 q1 g f1 i BadHead same counted h = tt
+slow_by p q0 q1 g f1 i HeadTooLarge same counted h = tt
+slow_by p q0 q1 g f1 i BodyTooLarge same counted h = tt
+slow_by p q0 q1 g f1 i BadChunk same counted h = tt
+slow_by p q0 q1 g f1 i Ended same counted h = tt
+slow_by p q0 q1 g f1 i ReadFault same counted h = tt
+slow_by p q0 q1 g f1 i NoMemory same counted h = tt
+slow_by p q0 q1 g f1 i (Slow n) same counted h = (h.0 ∙ same, λ below. omega (arith, counted below, h.1))
 
 -- a failed call was counted
 pub failed_at : {A : Type 0} (i : IntakeData) (f0 f1 : ℕ) (e : MessageFault) → HasCause i f0 f1 e → ◌≡◌ {A = Result A MessageFault} (Err e) (Err ReadFault)
@@ -198,105 +176,138 @@ failed_at i f0 f1 NoMemory cause is = absurd (cc)
 failed_at i f0 f1 (Slow n) cause is = absurd (cc)
 
 -- nothing was written
-adds_same : (old new : Option (List ℕ)) → new ≡ old → Adds old new []
+pub adds_same : (old new : Option (List ℕ)) → new ≡ old → Adds old new []
 adds_same old new same = let Added : Option (List ℕ) → Type 0 = λ w. Adds old w [] in subst Added (sym same) (adds_none old)
 
--- the answer at a fault of the head
-pub head_fault : (p : ℕ) (i : IntakeData) (left left' old new : Option (List ℕ)) (r : Result Message MessageFault) (f : MessageFault)
-    → i ≡ record { bytes = []; patience = p; allowed = p } → Stops HeadFault i.bytes left left' f → new ≡ old → IsErrAnd r (λ g. g ≡ f) → (input : List ℕ)
-    → left ≡ Some input → Writes old new (Answers input left' r)
-head_fault p i left left' old new r f begun stops same is input told =
+-- a reader that has read nothing
+abbrev Fresh : ℕ → IntakeData → Type 0
+Fresh p i = i ≡ record { bytes = []; patience = p; allowed = p }
+
+-- a fault of the head stops a reader
+pub head_stopped : {A : Type 0} (p : ℕ) (i : IntakeData) (left left' : Option (List ℕ)) (r : Result A MessageFault) (f : MessageFault) → Fresh p i
+    → Stops HeadFault i.bytes left left' f → IsErrAnd r (λ g. g ≡ f)
+    → IfErr r (λ fault. (input : List ℕ) → left ≡ Some input → IsFaultOf HeadFault input left' fault)
+head_stopped {A} p i left left' r f fresh stops is =
     let Stopped : IntakeData → Type 0 = λ j. Stops HeadFault j.bytes left left' f in
-    let stopped : Stops HeadFault [] left left' f = subst Stopped begun stops in
-    let Says : Result Message MessageFault → Type 0 = λ q. Writes old new (Answers input left' q) in
-    subst Says (sym (is_err r f is))
-    (writes_all old new [] (Answers input left' (Err f)) (adds_same old new same) (head_answer input left' f (stopped input (holds_all input left told))))
+    let stopped : Stops HeadFault [] left left' f = subst Stopped fresh stops in
+    on_exit r f (λ fault. (input : List ℕ) → left ≡ Some input → IsFaultOf HeadFault input left' fault) is
+    (λ input told. stopped input (holds_all input left told))
+
+-- with patience
+pub head_patient : {A : Type 0} (p : ℕ) (i0 i : IntakeData) (f0 f1 g q0 q1 : ℕ) (r : Result A MessageFault) (e : MessageFault) → Fresh p i0
+    → Waits i0 i f0 f1 q0 q1 → HasCause i g f1 e → IsErrAnd r (λ f. f ≡ e) → IfErr r (λ f. IsPatient p q0 q1 (Err f))
+head_patient {A} p i0 i f0 f1 g q0 q1 r e fresh waits cause is =
+    let From : IntakeData → Type 0 = λ j. Waits j i f0 f1 q0 q1 in
+    let here : Waits (record { bytes = []; patience = p; allowed = p }) i f0 f1 q0 q1 = subst From fresh waits in
+    on_exit r e (λ f. IsPatient p q0 q1 (Err f)) is
+    (record { more = here.quiet; most = λ below. omega (arith, here.counted below); slow = slow_by p q0 q1 g f1 i e here.same here.counted cause })
 
 -- what is known of the input after the head was taken
-after_head : (p : ℕ) (i : IntakeData) (left : Option (List ℕ)) (b1 : List ℕ) (left1 left2 : Option (List ℕ)) (bytes : List ℕ)
-    → i ≡ record { bytes = []; patience = p; allowed = p } → Took i.bytes left b1 left1 bytes → left2 ≡ left1 → (input : List ℕ) → left ≡ Some input
-    → (rest : List ℕ) × (input ≡ bytes ++ rest) × Holds b1 left2 rest
-after_head p i left b1 left1 left2 bytes begun took same input told =
-    let Takes : IntakeData → Type 0 = λ j. Took j.bytes left b1 left1 bytes in
-    let takes : Took [] left b1 left1 bytes = subst Takes begun took in
+pub begins : (p : ℕ) (i i1 : IntakeData) (left left1 : Option (List ℕ)) (head : Head) → Fresh p i
+    → ((bytes : List ℕ) × IsHead bytes head × Took i.bytes left i1.bytes left1 bytes) → (input : List ℕ) → left ≡ Some input
+    → Begins input left1 (record { head = head; intake = i1 })
+begins p i i1 left left1 head fresh taken input told =
+    let Takes : IntakeData → Type 0 = λ j. Took j.bytes left i1.bytes left1 taken.0 in
+    let takes : Took [] left i1.bytes left1 taken.0 = subst Takes fresh taken.2 in
     let one = takes input (holds_all input left told) in
-    (one.0, one.1, record { rest = one.2.rest; known = same ∙ one.2.known; is = one.2.is })
+    record { bytes = taken.0; rest = one.0; is = taken.1; split = one.1; holds = one.2 }
+
+-- and how long was waited
+pub has_waited : (p : ℕ) (i i1 : IntakeData) (head : Head) (f0 f1 q0 q1 : ℕ) → Fresh p i → Waits i i1 f0 f1 q0 q1
+    → HasWaited q0 (record { head = head; intake = i1 }) q1
+has_waited p i i1 head f0 f1 q0 q1 fresh waits =
+    let From : IntakeData → Type 0 = λ j. Waits j i1 f0 f1 q0 q1 in
+    let here : Waits (record { bytes = []; patience = p; allowed = p }) i1 f0 f1 q0 q1 = subst From fresh waits in
+    record { more = here.quiet; most = omega (arith, here.fewer, here.same); counted = λ below. omega (arith, here.counted below, here.same) }
+
+pub patience_is : (p : ℕ) (i i1 : IntakeData) (f0 f1 q0 q1 : ℕ) → Fresh p i → Waits i i1 f0 f1 q0 q1 → i1.patience ≡ p
+patience_is p i i1 f0 f1 q0 q1 fresh waits = waits.same ∙ ap (λ (j : IntakeData). j.patience) fresh
 
 -- the answer if `100 Continue` can't be written
-pub continue_fault : (p : ℕ) (i : IntakeData) (left : Option (List ℕ)) (b1 : List ℕ) (left1 left2 old mid new : Option (List ℕ)) (head : Head)
-    → i ≡ record { bytes = []; patience = p; allowed = p } → ((bytes : List ℕ) × IsHead bytes head × Took i.bytes left b1 left1 bytes) → left2 ≡ left1
-    → mid ≡ old → AddsPrefix mid new (continue_due head) → (input : List ℕ) → left ≡ Some input → Writes old new (Answers input left2 (Err ReadFault))
-continue_fault p i left b1 left1 left2 old mid new head begun taken same kept adds input told =
-    let after = after_head p i left b1 left1 left2 taken.0 begun taken.2 same input told in
-    let Added : Option (List ℕ) → Type 0 = λ w. AddsPrefix w new (continue_due head) in
-    writes_part old new (continue_due head) (Answers input left2 (Err ReadFault)) (subst Added kept adds)
-    (λ n. inr (taken.0, after.0, head, n, after.1, taken.1, refl))
+pub continue_fault : (begun : Begun) (left left1 old new : Option (List ℕ)) → left1 ≡ left → AddsPrefix old new (continue_due begun.head) → (input : List ℕ)
+    → Begins input left begun → Writes old new (Answers input left1 (Err ReadFault))
+continue_fault begun left left1 old new same adds input b =
+    writes_part old new (continue_due begun.head) (Answers input left1 (Err ReadFault)) adds
+    (λ n. inr (b.bytes, b.rest, begun.head, n, b.split, b.is, refl))
 
 -- `100 Continue` was written, and nothing else
-pub asked_only : (old mid next new : Option (List ℕ)) (head : Head) → mid ≡ old → Adds mid next (continue_due head) → new ≡ next → Adds old new (continue_due head)
-asked_only old mid next new head first adds last =
-    let From : Option (List ℕ) → Type 0 = λ w. Adds w next (continue_due head) in
-    let To : Option (List ℕ) → Type 0 = λ w. Adds old w (continue_due head) in
-    subst To (sym last) (subst From first adds)
+pub asked_only : (old next new : Option (List ℕ)) (head : Head) → Adds old next (continue_due head) → new ≡ next → Adds old new (continue_due head)
+asked_only old next new head adds last = let To : Option (List ℕ) → Type 0 = λ w. Adds old w (continue_due head) in subst To (sym last) adds
+
+-- the bytes that follow a head are held after `100 Continue` was written
+held : (begun : Begun) (left left1 : Option (List ℕ)) (input : List ℕ) → left1 ≡ left → (b : Begins input left begun) → Holds begun.intake.bytes left1 b.rest
+held begun left left1 input same b = record { rest = b.holds.rest; known = same ∙ b.holds.known; is = b.holds.is }
 
 -- the answer at a fault of the body
-pub body_fault : (p : ℕ) (i : IntakeData) (left : Option (List ℕ)) (b1 : List ℕ) (left1 left2 left3 old mid next new : Option (List ℕ)) (head : Head)
-    (r : Result Message MessageFault) (f : MessageFault) → i ≡ record { bytes = []; patience = p; allowed = p } →
-    ((bytes : List ℕ) × IsHead bytes head × Took i.bytes left b1 left1 bytes) → left2 ≡ left1 → mid ≡ old → Adds mid next (continue_due head) → new ≡ next → Stops
-    (IsBodyFault head.framing) b1 left2 left3 f → IsErrAnd r (λ g. g ≡ f) → (input : List ℕ) → left ≡ Some input → Writes old new (Answers input left3 r)
-body_fault p i left b1 left1 left2 left3 old mid next new head r f begun taken same first adds last stops is input told =
-    let after = after_head p i left b1 left1 left2 taken.0 begun taken.2 same input told in
-    let Says : Result Message MessageFault → Type 0 = λ q. Writes old new (Answers input left3 q) in
-    subst Says (sym (is_err r f is)) (writes_all old new (continue_due head) (Answers input left3 (Err f)) (asked_only old mid next new head first adds last)
-    (body_answer taken.0 after.0 input left3 head f taken.1 after.1 (stops after.0 after.2)))
+pub body_fault : (begun : Begun) (left left1 left2 old next new : Option (List ℕ)) (r : Result Message MessageFault) (f : MessageFault) → left1 ≡ left
+    → Adds old next (continue_due begun.head) → new ≡ next → Stops (IsBodyFault begun.head.framing) begun.intake.bytes left1 left2 f → IsErrAnd r (λ g. g ≡ f)
+    → (input : List ℕ) → Begins input left begun → Writes old new (Answers input left2 r)
+body_fault begun left left1 left2 old next new r f same adds last stops is input b =
+    let Says : Result Message MessageFault → Type 0 = λ q. Writes old new (Answers input left2 q) in
+    subst Says (sym (is_err r f is))
+    (writes_all old new (continue_due begun.head) (Answers input left2 (Err f)) (asked_only old next new begun.head adds last)
+    (body_answer b.bytes b.rest input left2 begun.head f b.is b.split (stops b.rest (held begun left left1 input same b))))
 
 -- the answer if all is read
-pub message_read : (p : ℕ) (i : IntakeData) (left : Option (List ℕ)) (b1 b2 : List ℕ) (left1 left2 left3 old mid next new : Option (List ℕ)) (head : Head)
-    (body : List ℕ) (m : Message) → i ≡ record { bytes = []; patience = p; allowed = p } →
-    ((bytes : List ℕ) × IsHead bytes head × Took i.bytes left b1 left1 bytes) → left2 ≡ left1 → mid ≡ old → Adds mid next (continue_due head) → new ≡ next →
-    ((taken : List ℕ) × ((more : List ℕ) → ReadsBody head.framing (taken ++ more) (Ok body)) × Took b1 left2 b2 left3 taken) → m ≡ message_of head body →
-    (input : List ℕ) → left ≡ Some input → Writes old new (Answers input left3 (Ok m))
-message_read p i left b1 b2 left1 left2 left3 old mid next new head body m begun taken same first adds last read is input told =
-    let after = after_head p i left b1 left1 left2 taken.0 begun taken.2 same input told in
-    let later = read.2 after.0 after.2 in
-    let Says : Message → Type 0 = λ n. Writes old new (Answers input left3 (Ok n)) in
-    subst Says (sym is) (writes_all old new (continue_due head) (Answers input left3 (Ok (message_of head body))) (asked_only old mid next new head first adds last)
-    (message_answer taken.0 read.0 later.0 input left3 head body taken.1 (after.1 ∙ ap (λ text. taken.0 ++ text) later.1) (read.1 later.0)))
+pub message_read : (begun : Begun) (left left1 left2 old next new : Option (List ℕ)) (b2 body : List ℕ) (m : Message) → left1 ≡ left
+    → Adds old next (continue_due begun.head) → new ≡ next
+    → ((taken : List ℕ) × ((more : List ℕ) → ReadsBody begun.head.framing (taken ++ more) (Ok body)) × Took begun.intake.bytes left1 b2 left2 taken)
+    → m ≡ message_of begun.head body → (input : List ℕ) → Begins input left begun → Writes old new (Answers input left2 (Ok m))
+message_read begun left left1 left2 old next new b2 body m same adds last read is input b =
+    let later = read.2 b.rest (held begun left left1 input same b) in
+    let Says : Message → Type 0 = λ n. Writes old new (Answers input left2 (Ok n)) in
+    subst Says (sym is)
+    (writes_all old new (continue_due begun.head) (Answers input left2 (Ok (message_of begun.head body))) (asked_only old next new begun.head adds last)
+    (message_answer b.bytes read.0 later.0 input left2 begun.head body b.is (b.split ∙ ap (λ text. b.bytes ++ text) later.1) (read.1 later.0)))
+
+-- the patience at a fault of the body
+pub patient_fault : (begun : Begun) (i : IntakeData) (f0 f1 g q0 q1 q2 : ℕ) (r : Result Message MessageFault) (e : MessageFault) → q1 ≡ q0
+    → Waits begun.intake i f0 f1 q1 q2 → HasCause i g f1 e → IsErrAnd r (λ f. f ≡ e) → (before : ℕ) → HasWaited before begun q0
+    → IsPatient begun.intake.patience before q2 r
+patient_fault begun i f0 f1 g q0 q1 q2 r e same waits cause is before w =
+    let At : Result Message MessageFault → Type 0 = λ s. IsPatient begun.intake.patience before q2 s in
+    let counted : q2 < last_count → q2 + i.allowed ≡ before + begun.intake.patience =
+    λ below. omega (arith, waits.counted below, w.counted (omega (arith, waits.quiet, same, below)), same) in
+    subst At (sym (is_err r e is)) (record {
+      more = omega (arith, w.more, waits.quiet, same);
+      most = λ below. omega (arith, counted below);
+      slow = slow_by begun.intake.patience before q2 g f1 i e waits.same counted cause;
+    })
+
+-- the patience if all is read
+pub patient_read : (begun : Begun) (i : IntakeData) (f0 f1 q0 q1 q2 : ℕ) (m : Message) → q1 ≡ q0 → Waits begun.intake i f0 f1 q1 q2 → (before : ℕ)
+    → HasWaited before begun q0 → IsPatient begun.intake.patience before q2 (Ok m)
+patient_read begun i f0 f1 q0 q1 q2 m same waits before w = record {
+  more = omega (arith, w.more, waits.quiet, same);
+  most = λ below. omega (arith, waits.counted below, w.counted (omega (arith, waits.quiet, same, below)), same);
+  slow = tt;
+}
+
+-- the patience if `100 Continue` can't be written
+pub patient_continue : (begun : Begun) (q0 q1 : ℕ) → q1 ≡ q0 → (before : ℕ) → HasWaited before begun q0
+    → IsPatient begun.intake.patience before q1 (Err ReadFault)
+patient_continue begun q0 q1 same before w =
+    record { more = omega (arith, w.more, same); most = λ below. omega (arith, w.counted (omega (arith, below, same)), same); slow = tt }
+
+-- the answer at a fault of the head
+pub head_fault : (left left' old new : Option (List ℕ)) (r : Result Message MessageFault) (f : MessageFault) → new ≡ old
+    → ((input : List ℕ) → left ≡ Some input → IsFaultOf HeadFault input left' f) → IsErrAnd r (λ g. g ≡ f) → (input : List ℕ) → left ≡ Some input
+    → Writes old new (Answers input left' r)
+head_fault left left' old new r f same stopped is input told =
+    let Says : Result Message MessageFault → Type 0 = λ q. Writes old new (Answers input left' q) in
+    subst Says (sym (is_err r f is))
+    (writes_all old new [] (Answers input left' (Err f)) (adds_same old new same) (head_answer input left' f (stopped input told)))
+
+-- the patience there
+pub patient_head : (p q0 q1 : ℕ) (r : Result Message MessageFault) (f : MessageFault) → IsPatient p q0 q1 (Err f) → IsErrAnd r (λ g. g ≡ f)
+    → IsPatient p q0 q1 r
+patient_head p q0 q1 r f patient is = let At : Result Message MessageFault → Type 0 = λ s. IsPatient p q0 q1 s in subst At (sym (is_err r f is)) patient
 
 -- nothing was written, which is no more than `100 Continue`
 pub bounded_same : (old new : Option (List ℕ)) → new ≡ old → AddsPrefix old new continue_line
 bounded_same old new same = bounded_none old new (adds_same old new same)
 
--- part of `100 Continue` after nothing
-pub bounded_cut : (old mid new : Option (List ℕ)) (head : Head) → mid ≡ old → AddsPrefix mid new (continue_due head) → AddsPrefix old new continue_line
-bounded_cut old mid new head kept adds =
-    let Added : Option (List ℕ) → Type 0 = λ w. AddsPrefix w new (continue_due head) in
-    bounded_part old new head (subst Added kept adds)
-
--- the patience at a fault
-pub patient_at : (p : ℕ) (i0 i : IntakeData) (f0 f1 g q0 q1 : ℕ) (r : Result Message MessageFault) (e : MessageFault)
-    → i0 ≡ record { bytes = []; patience = p; allowed = p } → Waits i0 i f0 f1 q0 q1 → HasCause i g f1 e → IsErrAnd r (λ f. f ≡ e) → IsPatient p q0 q1 r
-patient_at p i0 i f0 f1 g q0 q1 r e begun waits cause is =
-    let From : IntakeData → Type 0 = λ j. Waits j i f0 f1 q0 q1 in
-    let At : Result Message MessageFault → Type 0 = λ s. IsPatient p q0 q1 s in
-    subst At (sym (is_err r e is)) (patient_err p i f0 f1 g q0 q1 e (subst From begun waits) cause)
-
--- the patience if `100 Continue` can't be written
-pub patient_continue : (p : ℕ) (i0 i : IntakeData) (f0 f1 q0 q1 q2 : ℕ) → i0 ≡ record { bytes = []; patience = p; allowed = p } → Waits i0 i f0 f1 q0 q1
-    → q2 ≡ q1 → IsPatient p q0 q2 (Err ReadFault)
-patient_continue p i0 i f0 f1 q0 q1 q2 begun waits same =
-    let From : IntakeData → Type 0 = λ j. Waits j i f0 f1 q0 q1 in
-    let here : Waits (record { bytes = []; patience = p; allowed = p }) i f0 f1 q0 q1 = subst From begun waits in
-    record { more = omega (arith, here.quiet, same); most = λ below. omega (arith, here.counted (omega (arith, below, same)), same); slow = tt }
-
--- the patience if all is read
-pub patient_read : (p : ℕ) (i0 i : IntakeData) (f0 f1 q0 q1 : ℕ) (m : Message) → i0 ≡ record { bytes = []; patience = p; allowed = p }
-    → Waits i0 i f0 f1 q0 q1 → IsPatient p q0 q1 (Ok m)
-patient_read p i0 i f0 f1 q0 q1 m begun waits =
-    let From : IntakeData → Type 0 = λ j. Waits j i f0 f1 q0 q1 in
-    patient_ok p i f0 f1 q0 q1 m (subst From begun waits)
-
 -- a failed call was counted, if that is the fault
-pub failed_with : (i : IntakeData) (f0 f1 : ℕ) (r : Result Message MessageFault) (e : MessageFault) → HasCause i f0 f1 e → IsErrAnd r (λ f. f ≡ e)
+pub failed_with : {A : Type 0} (i : IntakeData) (f0 f1 : ℕ) (r : Result A MessageFault) (e : MessageFault) → HasCause i f0 f1 e → IsErrAnd r (λ f. f ≡ e)
     → r ≡ Err ReadFault → Rose f0 f1
 failed_with i f0 f1 r e cause is fault = failed_at i f0 f1 e cause (sym (is_err r e is) ∙ fault)

@@ -1,7 +1,7 @@
 -- How long the phrases of statuses are, and how the parts of a reply join.
-use Rattle.std.proofs.Common.{◌≡◌, ℕ, ◌+◌, ◌<◌, ◌≤◌, Bool, true, false, List, [], ◌++◌, length, take, min, Option, Some, Result, Ok, Err, refl, sym, ap, ◌∙◌, subst, arith, lit≤, lit<}
+use Rattle.std.proofs.Common.{◌≡◌, ℕ, ◌+◌, ◌<◌, ◌≤◌, Bool, true, false, List, [], ◌++◌, length, take, drop, min, Option, Some, Result, Ok, Err, refl, sym, ap, ◌∙◌, subst, append_assoc, arith, lit≤, lit<}
 use Rattle.std.specs.Prelude.{codes, unwrap_or, if◌then◌else◌, ◌==◌, ◌&&◌, nat_le, nat_lt, decimal, ◌^◌, OnErr}
-use Rattle.std.proofs.lemmas.List.{take_min, take-append-le}
+use Rattle.std.proofs.lemmas.List.{take_min, take-append-le, take-append-drop}
 use Rattle.std.proofs.Math.Seq.{take-append-add}
 use Rattle.std.proofs.lemmas.Bool.Decides.{nat_tests}
 use Rattle.http.specs.StatusCode.{reason_phrase, IsStatusCode}
@@ -111,6 +111,12 @@ pub joined : (r : HttpReply) (head body : List ℕ) (n : ℕ) → body ≡ sent_
 joined r head body n is long at =
     ap (λ text. text ++ body) (at ∙ ap (λ k. head_bytes r.status r.kind k r.fields.items) (long ∙ ap length is)) ∙ ap
     (λ text. head_bytes r.status r.kind (length (sent_body r.status r.kind r.body)) r.fields.items ++ text) is
+
+-- a head with the front of a body, and the rest of the body, are both
+pub in_two : (head body front rest : List ℕ) (n : ℕ) → front ≡ head ++ take n body → rest ≡ drop n body → front ++ rest ≡ head ++ body
+in_two head body front rest n is left =
+    ap (λ text. text ++ rest) is ∙ append_assoc head (take n body) rest
+    ∙ ap (λ text. head ++ (take n body ++ text)) left ∙ ap (λ text. head ++ text) (take-append-drop n body)
 
 -- both were written
 pub replied : (r : HttpReply) (old mid new : Option (List ℕ)) (head body : List ℕ) → head ++ body ≡ reply_bytes r → Adds old mid head → Adds mid new body

@@ -1,6 +1,7 @@
 -- What an input says as a message, and what a reader of it answers and writes.
 use Rattle.std.specs.Prelude.{◌≡◌, ℕ, ◌+◌, ◌<◌, ◌≤◌, ◌⊎◌, Bool, true, false, ◌&&◌, nat_lt, nat_le, if◌then◌else◌, List, [], ◌++◌, length, take, codes, Option, Some, Result, Ok, Err, IfErr}
 use Rattle.octo_outside.specs.Recorded.{Became, last_count}
+use Rattle.octo_http.specs.Input.{Holds}
 use Rattle.octo_http.specs.Head.{IsHead, HeadFault}
 use Rattle.octo_http.specs.Part.{crlf_crlf}
 use Rattle.octo_http.specs.Chunks as chunks
@@ -9,6 +10,7 @@ use Rattle.octo_http.specs.declared.fault.MessageFault.TheVariants.{BadHead, Hea
 use Rattle.octo_http.specs.declared.framing.Framing.{Framing}
 use Rattle.octo_http.specs.declared.framing.Framing.TheVariants.{NoBody, Length, Chunked}
 use Rattle.octo_http.specs.declared.head.Head.{Head}
+use Rattle.octo_http.specs.declared.message.Begun.{Begun}
 use Rattle.octo_http.specs.declared.message.Message.{Message}
 
 -- whether a length or chunks were given
@@ -27,6 +29,12 @@ has_body Chunked = true
 abbrev pub continue_line : List ℕ
 continue_line = codes "HTTP/1.1 100 Continue" ++ crlf_crlf
 
+-- whether a body is long: it has more than 4,096 bytes or is in chunks
+abbrev pub is_long : Framing → Bool
+is_long NoBody = false
+is_long (Length n) = nat_lt 4096 n
+is_long Chunked = true
+
 -- what is written before the body is read
 abbrev pub continue_due : Head → List ℕ
 continue_due head = if head.expects && has_body head.framing then continue_line else []
@@ -43,6 +51,22 @@ message_of head body = record {
   encoded = head.encoded;
   body = body;
 }
+
+-- the message has what this head says
+abbrev pub IsOfHead : Head → Message → Type 0
+IsOfHead head m = (body : List ℕ) × (m ≡ message_of head body)
+
+-- an input begins with this head
+abbrev pub BeginsWith : List ℕ → Head → Type 0
+BeginsWith input head = (bytes : List ℕ) × (rest : List ℕ) × IsHead bytes head × (input ≡ bytes ++ rest)
+
+-- an input of which the head was taken, and of what follows it these bytes were read and this is left
+pub record Begins (input : List ℕ) (left : Option (List ℕ)) (begun : Begun) : Type 0 where
+  pub bytes : List ℕ
+  pub rest : List ℕ
+  pub is : IsHead bytes begun.head
+  pub split : input ≡ bytes ++ rest
+  pub holds : Holds begun.intake.bytes left rest
 
 -- what an input says as a body of this length
 pub data ReadsBody : Framing → List ℕ → Result (List ℕ) MessageFault → Type 0 where
@@ -112,3 +136,9 @@ pub record IsPatient (patience quiets quiets' : ℕ) (r : Result Message Message
   pub more : quiets ≤ quiets'
   pub most : quiets' < last_count → quiets' ≤ quiets + patience
   pub slow : IfErr r (IsSlow patience quiets quiets')
+
+-- a reader that began at one count of quiet reads has used up its patience by those since
+pub record HasWaited (before : ℕ) (begun : Begun) (quiets : ℕ) : Type 0 where
+  pub more : before ≤ quiets
+  pub most : begun.intake.allowed ≤ begun.intake.patience
+  pub counted : quiets < last_count → quiets + begun.intake.allowed ≡ before + begun.intake.patience

@@ -50,6 +50,6 @@ pub(crate) fn fill<C: Conn>(
             return Ok(());
         }
         intake.go_on(came)?;
-        came = intake.fetch(conn)?;
+        came = intake.fetch_due(conn, due)?;
     }
 }

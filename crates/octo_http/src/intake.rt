@@ -9,6 +9,9 @@ use std::marker::Model;
 // How many bytes a read may bring.
 const READ: usize = 4096;
 
+// The same within a long body.
+const MUCH: usize = 65_536;
+
 // Once this many bytes were taken, they are removed.
 const TAKEN: usize = 16384;
 
@@ -113,6 +116,41 @@ impl Intake {
         self.allowed -= 1;
     }
 
+    // Reads once through a buffer. Without memory what came is lost.
+    fn fetch_through<C: Conn>(
+        &mut self,
+        conn: &mut C,
+        buffer: &mut [u8],
+    ) -> Result<Came, AllocError>
+        requires allowed { 0 < self.old.allowed }
+        requires room { 0 < length buffer.old }
+        // What came follows what was at hand.
+        ensures took { OnOk result
+            (Took self.old.bytes (C.left conn.old) self.new.bytes (C.left conn.new) []) }
+        ensures brings { IfOk result (λ came. Brings came self.old self.new) }
+        ensures knows { IfOk result
+            (λ came. Knows came self.new [] self.old.bytes (C.left conn.old) (C.faults conn.old)
+            (C.faults conn.new)) }
+
+        // Counts, and what stays.
+        ensures waits { Waits self.old self.new (C.faults conn.old) (C.faults conn.new)
+            (C.quiets conn.old) (C.quiets conn.new) }
+        ensures written { C.written conn.new ≡ C.written conn.old }
+    {
+        match conn.read(buffer) {
+            Ok(Got::Bytes(n)) => {
+                self.push(&buffer[..n])?;
+                Ok(Came::Bytes)
+            }
+            Ok(Got::Quiet) => {
+                self.count_quiet();
+                Ok(Came::Quiet)
+            }
+            Ok(Got::Ended) => Ok(Came::Ended),
+            Err(Failed) => Ok(Came::Failed),
+        }
+    }
+
     // Reads once. Without memory what came is lost.
     pub(crate) fn fetch<C: Conn>(&mut self, conn: &mut C) -> Result<Came, AllocError>
         requires { 0 < self.old.allowed }
@@ -130,18 +168,53 @@ impl Intake {
         ensures written { C.written conn.new ≡ C.written conn.old }
     {
         let mut buffer = [0; READ];
-        match conn.read(&mut buffer) {
-            Ok(Got::Bytes(n)) => {
-                self.push(&buffer[..n])?;
-                Ok(Came::Bytes)
-            }
-            Ok(Got::Quiet) => {
-                self.count_quiet();
-                Ok(Came::Quiet)
-            }
-            Ok(Got::Ended) => Ok(Came::Ended),
-            Err(Failed) => Ok(Came::Failed),
+        self.fetch_through(conn, &mut buffer)
+    }
+
+    // Reads once, and asks for more bytes at a time.
+    fn fetch_much<C: Conn>(&mut self, conn: &mut C) -> Result<Came, AllocError>
+        requires { 0 < self.old.allowed }
+        // What came follows what was at hand.
+        ensures took { OnOk result
+            (Took self.old.bytes (C.left conn.old) self.new.bytes (C.left conn.new) []) }
+        ensures brings { IfOk result (λ came. Brings came self.old self.new) }
+        ensures knows { IfOk result
+            (λ came. Knows came self.new [] self.old.bytes (C.left conn.old) (C.faults conn.old)
+            (C.faults conn.new)) }
+
+        // Counts, and what stays.
+        ensures waits { Waits self.old self.new (C.faults conn.old) (C.faults conn.new)
+            (C.quiets conn.old) (C.quiets conn.new) }
+        ensures written { C.written conn.new ≡ C.written conn.old }
+    {
+        let mut buffer = [0; MUCH];
+        self.fetch_through(conn, &mut buffer)
+    }
+
+    // Reads once for a body of which this number of bytes is due.
+    pub(crate) fn fetch_due<C: Conn>(
+        &mut self,
+        conn: &mut C,
+        due: usize,
+    ) -> Result<Came, AllocError>
+        requires { 0 < self.old.allowed }
+        // What came follows what was at hand.
+        ensures took { OnOk result
+            (Took self.old.bytes (C.left conn.old) self.new.bytes (C.left conn.new) []) }
+        ensures brings { IfOk result (λ came. Brings came self.old self.new) }
+        ensures knows { IfOk result
+            (λ came. Knows came self.new [] self.old.bytes (C.left conn.old) (C.faults conn.old)
+            (C.faults conn.new)) }
+
+        // Counts, and what stays.
+        ensures waits { Waits self.old self.new (C.faults conn.old) (C.faults conn.new)
+            (C.quiets conn.old) (C.quiets conn.new) }
+        ensures written { C.written conn.new ≡ C.written conn.old }
+    {
+        if due > READ {
+            return self.fetch_much(conn);
         }
+        self.fetch(conn)
     }
 
     // Whether the reader goes on after a read that brought this: the first reason not to.

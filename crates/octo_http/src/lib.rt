@@ -22,6 +22,6 @@ mod reply;
 pub use fault::MessageFault;
 pub use framing::Framing;
 pub use head::{Found, Head, look};
-pub use message::{Message, read_message};
+pub use message::{Begun, Message, is_long, read_begin, read_message, read_rest};
 pub use part::{Part, look_part};
 pub use reply::{FieldLines, HttpReply, NO_CONTENT, ReplyKind, write_head, write_reply};

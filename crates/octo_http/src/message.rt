@@ -1,7 +1,9 @@
 //! One message of a connection.
-ghost use Rattle.std.specs.Prelude.{◌≡◌, ◌<◌, ℕ, List, Some, Ok, Err, OnOk, OnErr, IsErr, IfErr, IsErrOf};
+ghost use Rattle.std.specs.Prelude.{◌≡◌, ◌<◌, ℕ, List, Some, Ok, Err, OnOk, OnErr, IsErr, IfOk, IfErr, IsErrOf};
 ghost use Rattle.octo_outside.specs.Recorded.{Adds, AddsPrefix, Counts};
-ghost use Rattle.octo_http.specs.Message.{has_body, continue_line, continue_due, message_of, Answers, Writes, IsPatient};
+ghost use Rattle.octo_http.specs.Head.{HeadFault};
+ghost use Rattle.octo_http.specs.Stops.{IsFaultOf};
+ghost use Rattle.octo_http.specs.Message.{has_body, is_long, continue_line, continue_due, message_of, IsOfHead, Begins, Answers, Writes, IsPatient, HasWaited};
 
 use crate::body::read_body;
 use crate::chunks::MOST_BODY;
@@ -11,6 +13,9 @@ use crate::{Framing, Head, MessageFault};
 use http::Method;
 use octo_outside::{Blob, Conn, Failed, send_all};
 use std::alloc::Global;
+
+// How many bytes a body may have that isn't long.
+const SHORT: u64 = 4096;
 
 /// A message. Source: RFC 9112.
 #[derive(Drop)]
@@ -31,6 +36,14 @@ pub struct Message {
     pub body: Blob,
 }
 
+/// A message whose head was read, and what was read after it.
+#[derive(Drop)]
+pub struct Begun {
+    /// What the head says.
+    pub head: Head,
+    intake: Intake,
+}
+
 // Whether there is a body to read.
 fn has_body(framing: Framing) -> bool
     ensures { result ≡ has_body framing }
@@ -38,6 +51,17 @@ fn has_body(framing: Framing) -> bool
     match framing {
         Framing::NoBody => false,
         Framing::Length(length) => length > 0 && length <= MOST_BODY,
+        Framing::Chunked => true,
+    }
+}
+
+/// Whether a body is long: it has more than 4,096 bytes, or is in chunks.
+pub fn is_long(framing: Framing) -> bool
+    ensures { result ≡ is_long framing }
+{
+    match framing {
+        Framing::NoBody => false,
+        Framing::Length(length) => length > SHORT,
         Framing::Chunked => true,
     }
 }
@@ -93,7 +117,67 @@ fn message_of(head: Head, body: Blob) -> Message
     }
 }
 
-/// Reads one message. It waits through at most `patience` quiet reads; what follows the message isn't looked at.
+/// Reads the head of a message. It waits through at most `patience` quiet reads.
+///
+/// Fails by each [`MessageFault`] but `BodyTooLarge` and `BadChunk`.
+pub fn read_begin<C: Conn>(
+    alloc: Global,
+    conn: &mut C,
+    patience: u32,
+) -> Result<Begun, MessageFault>
+    // What the input begins with, or why it begins with no head.
+    ensures begun { IfOk result (λ begun. (input : List ℕ) → C.left conn.old ≡ Some input
+        → Begins input (C.left conn.new) begun) }
+    ensures stopped { IfErr result (λ fault. (input : List ℕ) → C.left conn.old ≡ Some input
+        → IsFaultOf HeadFault input (C.left conn.new) fault) }
+    ensures written { C.written conn.new ≡ C.written conn.old }
+
+    // Counts.
+    ensures patience { IfOk result (λ begun. begun.intake.patience ≡ patience) }
+    ensures waited { IfOk result (λ begun. HasWaited (C.quiets conn.old) begun (C.quiets conn.new)) }
+    ensures patient { IfErr result (λ fault. IsPatient patience (C.quiets conn.old)
+        (C.quiets conn.new) (Err fault)) }
+    ensures counts { Counts (IsErrOf result MessageFault.ReadFault)
+        (C.faults conn.old) (C.faults conn.new) }
+{
+    let mut intake = Intake::new(alloc, patience);
+    let head = read_head(alloc, &mut intake, conn)?;
+    Ok(Begun { head, intake })
+}
+
+/// Reads the body of a message that has begun. `100 Continue` is written before, if the client waits for it. What follows the
+/// message isn't looked at.
+///
+/// Fails by each [`MessageFault`] but `BadHead` and `HeadTooLarge`.
+pub fn read_rest<C: Conn>(
+    alloc: Global,
+    conn: &mut C,
+    begun: Begun,
+) -> Result<Message, MessageFault>
+    ensures answer { (input : List ℕ) → Begins input (C.left conn.old) begun
+        → Writes (C.written conn.old) (C.written conn.new)
+        (Answers input (C.left conn.new) result) }
+    ensures head { IfOk result (λ m. IsOfHead begun.head m) }
+    ensures bounded { AddsPrefix (C.written conn.old) (C.written conn.new) continue_line }
+
+    // Counts.
+    ensures patient { (before : ℕ) → HasWaited before begun (C.quiets conn.old)
+        → IsPatient begun.intake.patience before (C.quiets conn.new) result }
+    ensures counts { Counts (IsErrOf result MessageFault.ReadFault)
+        (C.faults conn.old) (C.faults conn.new) }
+{
+    let Begun { head, intake } = begun;
+    let mut intake = intake;
+    match send_continue(conn, &head) {
+        Ok(()) => {}
+        Err(Failed) => return Err(MessageFault::ReadFault),
+    }
+    let body = read_body(alloc, &mut intake, conn, head.framing)?;
+    Ok(message_of(head, body))
+}
+
+/// Reads one message: its head, and then its body. It waits through at most `patience` quiet reads; what follows the message
+/// isn't looked at.
 ///
 /// Fails by each [`MessageFault`]: a head or a chunk that is malformed, a head or a body that is too large, an input that ends or
 /// stays quiet, a connection that fails, or no memory.
@@ -113,12 +197,6 @@ pub fn read_message<C: Conn>(
     ensures counts { Counts (IsErrOf result MessageFault.ReadFault)
         (C.faults conn.old) (C.faults conn.new) }
 {
-    let mut intake = Intake::new(alloc, patience);
-    let head = read_head(alloc, &mut intake, conn)?;
-    match send_continue(conn, &head) {
-        Ok(()) => {}
-        Err(Failed) => return Err(MessageFault::ReadFault),
-    }
-    let body = read_body(alloc, &mut intake, conn, head.framing)?;
-    Ok(message_of(head, body))
+    let begun = read_begin(alloc, conn, patience)?;
+    read_rest(alloc, conn, begun)
 }

@@ -6,7 +6,7 @@ ghost use Rattle.octo_http.specs.Part.{crlf};
 ghost use Rattle.octo_http.specs.Reply.{reason_of, phrase_of, first_lines, type_line, head_bytes, sent_body, with_fields, reply_head, reply_bytes};
 
 use arrayvec::ArrayVec;
-use byte_text::{append, append_decimal};
+use byte_text::{after, append, append_decimal};
 use http::StatusCode;
 use octo_outside::{Blob, Conn, Failed, send_all};
 
@@ -39,6 +39,12 @@ pub const NO_CONTENT: u16 = 204;
 
 // The lines and fields before a body.
 type ReplyHead = ArrayVec<u8, 832>;
+
+// How many bytes of a body are sent at once with what is before it.
+const FRONT: usize = 4096;
+
+// The lines and fields before a body, and the first bytes of it.
+type ReplyFront = ArrayVec<u8, 4928>;
 
 // The phrase of a status code, empty if it has none.
 fn reason_of(code: &StatusCode) -> &'static str
@@ -144,7 +150,18 @@ fn sent_body(reply: &HttpReply) -> &[u8]
     reply.body.as_slice()
 }
 
-/// Writes the bytes of a reply with more fields before its own; after a failed call a prefix of them was written.
+// The lines and fields before a body, and these bytes of it.
+fn front_of(head: &ReplyHead, body: &[u8]) -> ReplyFront
+    requires { length body.now ≤ 4096 }
+    ensures { result.items ≡ head.now.items ++ body.now }
+{
+    let mut front = ArrayVec::new();
+    append(&mut front, head.as_slice());
+    append(&mut front, body);
+    front
+}
+
+/// Writes the bytes of a reply with more fields before its own, a short one at once; after a failed call a prefix of them was written.
 /// Source: RFC 9112, section 4.
 pub fn write_reply<C: Conn>(
     conn: &mut C,
@@ -161,8 +178,10 @@ pub fn write_reply<C: Conn>(
 {
     let body = sent_body(reply);
     let head = head_of(reply, body.len(), more);
-    send_all(conn, head.as_slice())?;
-    send_all(conn, body)?;
+    let count = body.len().min(FRONT);
+    let front = front_of(&head, &body[..count]);
+    send_all(conn, front.as_slice())?;
+    send_all(conn, after(body, count))?;
     Ok(())
 }
 

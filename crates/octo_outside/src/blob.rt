@@ -80,10 +80,16 @@ impl Blob {
     }
 }
 
-/// Adds a line with its line feed. Fails if out of memory; a part of it may have been added then.
+/// Adds a line with its line feed; without memory nothing is added.
 pub fn append_line(text: &mut Blob, line: &[u8]) -> Result<(), AllocError>
-    ensures { OnOk result (text.new ≡ text.old ++ with_line_feed line.now) }
+    ensures ok { OnOk result (text.new ≡ text.old ++ with_line_feed line.now) }
+    ensures err { OnErr result (text.new ≡ text.old) }
 {
+    let held = text.len();
     text.append(line)?;
-    text.append(b"\n")
+    let added = text.append(b"\n");
+    if added.is_err() {
+        text.bytes.truncate(held);
+    }
+    added
 }

@@ -1,6 +1,7 @@
-//! Connections whose heads haven't come whole yet.
+//! Connections that wait for the rest of their heads, or for a worker.
 ghost use Rattle.std.specs.Prelude.{◌≡◌, ◌≤◌, length};
 
+use crate::came::{Came, MOST_AHEAD};
 use crate::passing::may_pass;
 use libc::net::{POLLIN, poll};
 use libc::types::pollfd;
@@ -19,9 +20,6 @@ const MOST: usize = 64;
 // How many descriptors are polled: theirs, and the listener's as the last.
 const POLLED: usize = 65;
 
-// After how many bytes a connection is handed on, if its head goes on.
-const MOST_AHEAD: usize = 8_192;
-
 // How many bytes a read may bring.
 const CHUNK: usize = 4_096;
 
@@ -31,6 +29,12 @@ const LONGEST: u64 = 60;
 // How long one call waits for input, and rests if the system has no room for a connection, in milliseconds.
 const WAIT: i32 = 10;
 
+// How many of the four workers may serve connections at once that may keep them waiting. The last one serves whole messages.
+const MOST_BUSY: u8 = 3;
+
+// For how long a worker leaves the list to the others if a connection waits for one of them, in milliseconds.
+const TURN: u64 = 1;
+
 /// A connection that has come, with the bytes that were read of it.
 #[derive(Drop)]
 pub(crate) struct Arrival {
@@ -38,66 +42,60 @@ pub(crate) struct Arrival {
     pub ahead: Vec<u8>,
     // It has begun a head and not ended it in a minute.
     pub is_late: bool,
+    came: Came,
+    // The peer sends no more.
+    has_ended: bool,
     since: Instant,
 }
 
-// What a look at a connection came to.
-#[derive(Drop)]
-enum Look {
-    // It waits on.
-    Waits,
-    // It has closed without a byte, or failed.
-    Gone,
-    // It is to be handed on.
-    Ready(Arrival),
-}
-
-// What a read of a connection found.
-#[derive(Clone, Copy)]
-enum Ahead {
-    Part,
-    Whole,
-    Gone,
-}
-
-// Whether bytes have an empty line from this place on, which ends a head.
-fn has_empty_line(bytes: &[u8]) -> bool {
-    let mut is_empty = false;
-    for byte in bytes {
-        match *byte {
-            b'\n' if is_empty => return true,
-            b'\n' => is_empty = true,
-            b'\r' => {}
-            _ => is_empty = false,
-        }
-    }
-    false
-}
-
 impl Arrival {
-    // Reads what came.
-    fn read_ahead(&mut self) -> Ahead {
+    // One that has come now, if the clock can be read.
+    fn new<R: Clock>(rt: &R, alloc: Global, stream: TcpStream) -> Option<Self> {
+        Some(Arrival {
+            stream,
+            ahead: Vec::new(alloc),
+            is_late: false,
+            came: Came::Part,
+            has_ended: false,
+            since: Instant::now(rt).ok()?,
+        })
+    }
+
+    // Whether more of it is read at the door.
+    fn goes_on(&self) -> bool {
+        self.came != Came::Whole && !self.has_ended && self.ahead.len() < MOST_AHEAD
+    }
+
+    // Reads what came. Returns whether the connection has closed without a byte, or failed.
+    fn read_ahead(&mut self) -> bool {
         let mut chunk = [0; CHUNK];
         match self.stream.read(&mut chunk) {
-            Ok(0) if self.ahead.is_empty() => Ahead::Gone,
-            Ok(0) => Ahead::Whole,
+            Ok(0) => {
+                self.has_ended = true;
+                self.came = Came::Head;
+                self.ahead.is_empty()
+            }
             Ok(n) => self.add(&chunk[..n]),
-            Err(error) if may_come_later(&error) => Ahead::Part,
-            Err(_) => Ahead::Gone,
+            Err(error) => !may_come_later(&error),
         }
     }
 
-    // Adds what came. Without memory for it the connection is given up.
-    fn add(&mut self, bytes: &[u8]) -> Ahead {
-        // The empty line may have begun with the last bytes before.
-        let from = self.ahead.len().saturating_sub(3);
+    // Adds what came. Returns whether there was no memory for it, so that the connection is given up.
+    fn add(&mut self, bytes: &[u8]) -> bool {
         if self.ahead.extend_from_slice(bytes).is_err() {
-            return Ahead::Gone;
+            return true;
         }
-        if self.ahead.len() >= MOST_AHEAD || has_empty_line(&self.ahead.as_slice()[from..]) {
-            return Ahead::Whole;
+        self.came = Came::of(self.ahead.as_slice());
+        false
+    }
+
+    // Whether a worker may have it: one that is the last may have a whole message alone.
+    fn is_ready(&self, is_last: bool) -> bool {
+        match self.came {
+            Came::Part => false,
+            Came::Head => !is_last,
+            Came::Whole => true,
         }
-        Ahead::Part
     }
 
     // Whether it has waited for a minute.
@@ -109,15 +107,19 @@ impl Arrival {
     }
 }
 
-/// A listener, and the connections of it whose heads haven't come whole, the oldest first. It never has more than 64 of them.
+/// A listener, and the connections of it that no worker has yet, the oldest first. It never has more than 64 of them.
 ///
-/// One that has sent its head, 8 KiB, or some bytes and then its end, is handed on. After a minute one that has sent nothing is
-/// closed, since browsers open connections before they need them, and one that has sent less is handed on as late.
+/// One that has sent its head, 8 KiB, or some bytes and then its end, is handed on. If three workers have a connection, the
+/// fourth is handed whole messages alone, to which the reply is short: so callers that send or read slowly leave it to the
+/// others. After a minute a connection that has sent nothing is closed, since browsers open connections before they need
+/// them, and one that has sent less than a head is handed on as late.
 #[derive(Drop)]
 pub(crate) struct Arrivals {
     alloc: Global,
     listener: TcpListener,
     begun: Vec<Arrival>,
+    // How many workers have a connection.
+    busy: u8,
 }
 
 impl Arrivals {
@@ -127,11 +129,12 @@ impl Arrivals {
             alloc,
             listener,
             begun: Vec::with_capacity(alloc, MOST)?,
+            busy: 0,
         })
     }
 
-    // For each connection whether it has input, and at the end whether the listener has a connection. Waits for about 10
-    // milliseconds until one of them has.
+    // For each connection that goes on whether it has input, and at the end whether the listener has a connection. Waits for
+    // about 10 milliseconds until one of them has.
     fn poll_all(&self) -> [pollfd; POLLED] {
         let none = pollfd {
             fd: -1,
@@ -140,7 +143,9 @@ impl Arrivals {
         };
         let mut asked = [none; POLLED];
         for place in 0..MOST {
-            if let Some(arrival) = self.begun.as_slice().get(place) {
+            if let Some(arrival) = self.begun.as_slice().get(place)
+                && arrival.goes_on()
+            {
                 asked[place].fd = arrival.stream.as_raw_fd();
             }
         }
@@ -157,35 +162,44 @@ impl Arrivals {
         None
     }
 
-    // Reads what came at the connection at this place.
-    fn look(&mut self, place: usize) -> Look {
-        let Some(arrival) = self.begun.get_mut(place) else {
-            return Look::Waits;
-        };
-        match arrival.read_ahead() {
-            Ahead::Part => Look::Waits,
-            Ahead::Gone => {
-                let _ = self.remove(place);
-                Look::Gone
-            }
-            Ahead::Whole => match self.remove(place) {
-                Some(arrival) => Look::Ready(arrival),
-                None => Look::Gone,
-            },
+    // The place of the oldest connection that has sent less than a head.
+    fn oldest_part(&self) -> Option<usize> {
+        let begun = self.begun.as_slice();
+        begun.iter().position(|it| it.came == Came::Part)
+    }
+
+    // Takes the oldest connection out that a worker may have now.
+    fn take_ready(&mut self) -> Option<Arrival> {
+        let is_last = self.busy >= MOST_BUSY;
+        let begun = self.begun.as_slice();
+        let place = begun.iter().position(|it| it.is_ready(is_last))?;
+        self.remove(place)
+    }
+
+    // Whether a connection waits for one of the workers that have one.
+    fn has_waiting(&self) -> bool {
+        let begun = self.begun.as_slice();
+        begun.iter().any(|it| it.came == Came::Head)
+    }
+
+    // Reads what came at the connection at this place, and drops it if it is gone.
+    fn look(&mut self, place: usize) {
+        if let Some(arrival) = self.begun.get_mut(place)
+            && arrival.read_ahead()
+        {
+            let _ = self.remove(place);
         }
     }
 
-    // Reads what came at the connections that have input, up to the first that is handed on or gone.
-    fn look_at_all(&mut self, asked: &[pollfd; POLLED]) -> Look {
-        for place in 0..MOST {
+    // Reads what came at the connections that have input. The last is looked at first, since one that is dropped moves those
+    // behind it.
+    fn look_at_all(&mut self, asked: &[pollfd; POLLED]) {
+        for before in 0..MOST {
+            let place = MOST - 1 - before;
             if asked[place].revents != 0 {
-                match self.look(place) {
-                    Look::Waits => {}
-                    other => return other,
-                }
+                self.look(place);
             }
         }
-        Look::Waits
     }
 
     // Keeps a connection that has come. One that can't be readied, or for which there is no memory, is closed.
@@ -193,18 +207,19 @@ impl Arrivals {
         if prepare(&stream).is_err() {
             return;
         }
-        let Ok(since) = Instant::now(rt) else {
+        let Some(arrival) = Arrival::new(rt, self.alloc, stream) else {
             return;
         };
         if self.begun.len() >= MOST {
-            let _ = self.remove(0);
+            self.drop_oldest();
         }
-        let _ = self.begun.push(Arrival {
-            stream,
-            ahead: Vec::new(self.alloc),
-            is_late: false,
-            since,
-        });
+        let _ = self.begun.push(arrival);
+    }
+
+    // Closes the oldest connection: one that has sent less than a head, if there is one.
+    fn drop_oldest(&mut self) {
+        let place = self.oldest_part().unwrap_or(0);
+        let _ = self.remove(place);
     }
 
     // Takes in a connection. Fails if the listener failed. If the system has no room, the oldest connection is closed.
@@ -218,19 +233,21 @@ impl Arrivals {
                 if !may_pass(&error) {
                     return Err(error);
                 }
-                let _ = self.remove(0);
+                self.drop_oldest();
                 thread::sleep(rt, Duration::from_millis(WAIT as u64));
             }
         }
         Ok(())
     }
 
-    // Takes the oldest connection out if it has waited for a minute. One that has sent nothing is closed.
+    // Takes the oldest connection out that has sent less than a head, if it has waited for a minute. One that has sent nothing
+    // is closed.
     fn take_old<R: Clock>(&mut self, rt: &R) -> Option<Arrival> {
-        if !self.begun.as_slice().first()?.is_old(rt) {
+        let place = self.oldest_part()?;
+        if !self.begun.as_slice().get(place)?.is_old(rt) {
             return None;
         }
-        let mut oldest = self.remove(0)?;
+        let mut oldest = self.remove(place)?;
         if oldest.ahead.is_empty() {
             return None;
         }
@@ -240,16 +257,30 @@ impl Arrivals {
 
     // The next connection that is handed on, if there is one within about 10 milliseconds. Fails if the listener failed.
     fn next<R: Clock>(&mut self, rt: &R) -> io::Result<Option<Arrival>> {
-        let asked = self.poll_all();
-        match self.look_at_all(&asked) {
-            Look::Ready(arrival) => return Ok(Some(arrival)),
-            Look::Gone => return Ok(None),
-            Look::Waits => {}
+        if let Some(arrival) = self.take_ready() {
+            return Ok(Some(arrival));
         }
+        let asked = self.poll_all();
+        self.look_at_all(&asked);
         if asked[MOST].revents != 0 {
             self.admit(rt)?;
         }
-        Ok(self.take_old(rt))
+        match self.take_ready() {
+            Some(arrival) => Ok(Some(arrival)),
+            None => Ok(self.take_old(rt)),
+        }
+    }
+
+    // The same for a worker, which gives a connection back if it had one.
+    fn next_for<R: Clock>(&mut self, rt: &R, had_one: bool) -> io::Result<Option<Arrival>> {
+        if had_one {
+            self.busy = self.busy.saturating_sub(1);
+        }
+        let arrival = self.next(rt)?;
+        if arrival.is_some() {
+            self.busy = self.busy.saturating_add(1);
+        }
+        Ok(arrival)
     }
 }
 
@@ -259,11 +290,28 @@ pub(crate) fn address_of<R: Wait>(rt: &R, arrivals: &Mutex<Arrivals>) -> Option<
     arrivals.listener.local_addr().ok()
 }
 
-/// The next connection that is handed on. Waits for the others that ask, and for about 10 milliseconds more.
+// The next connection that is handed on to a worker, and whether one is left to the others.
+fn next_in_turn<R: Clock + Wait>(
+    rt: &R,
+    arrivals: &Mutex<Arrivals>,
+    had_one: bool,
+) -> io::Result<(Option<Arrival>, bool)> {
+    let mut arrivals = arrivals.lock(rt);
+    let arrival = arrivals.next_for(rt, had_one)?;
+    let is_left = arrival.is_none() && arrivals.has_waiting();
+    Ok((arrival, is_left))
+}
+
+/// The next connection that is handed on to a worker, which gives one back if it had one. Waits for the others that ask, and
+/// for about 10 milliseconds more.
 pub(crate) fn next_of<R: Clock + Wait>(
     rt: &R,
     arrivals: &Mutex<Arrivals>,
+    had_one: bool,
 ) -> io::Result<Option<Arrival>> {
-    let mut arrivals = arrivals.lock(rt);
-    arrivals.next(rt)
+    let (arrival, is_left) = next_in_turn(rt, arrivals, had_one)?;
+    if is_left {
+        thread::sleep(rt, Duration::from_millis(TURN));
+    }
+    Ok(arrival)
 }

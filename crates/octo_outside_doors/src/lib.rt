@@ -2,6 +2,7 @@
 #![tactic(auto)]
 
 mod arrivals;
+mod came;
 mod door;
 mod door_conn;
 mod memory_door;

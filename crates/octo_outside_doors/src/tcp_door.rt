@@ -19,15 +19,17 @@ const WAIT: u64 = 10;
 
 /// A door over TCP. It says neither which connections come nor what was served.
 ///
-/// Four doors share one listener, and one list of the connections whose heads haven't come whole: see `Arrivals`. So a call
-/// returns a connection whose worker needs not wait for its head. It waits for about 10 milliseconds, and for the calls of the
-/// other three doors before it. A connection that is given back is written out and closed in order: see
+/// Four doors share one listener, and one list of the connections that no worker has yet: see `Arrivals`. So a call returns a
+/// connection whose worker needs not wait for its head, and for nothing of it if the other three doors have one out. It waits
+/// for about 10 milliseconds, and for the calls of the other three doors before it. A connection that is given back is written out and closed in order: see
 /// `DoorConn::finish`.
 #[derive(Drop)]
 pub struct TcpDoor<R: Net + Drop> {
     rt: R,
     arrivals: Option<Arc<Mutex<Arrivals>>>,
     bell: Bell,
+    // Its worker has a connection.
+    is_out: bool,
     faults: u64,
     has_failed: bool,
 }
@@ -61,6 +63,7 @@ impl<R: Net<Listener = TcpListener, Stream = TcpStream> + Copy> TcpDoor<R> {
             rt: *rt,
             arrivals: None,
             bell: Bell::silent(),
+            is_out: false,
             faults: 0,
             has_failed: false,
         }
@@ -74,6 +77,7 @@ impl<R: Net<Listener = TcpListener, Stream = TcpStream> + Copy> TcpDoor<R> {
             rt: *rt,
             arrivals: Some(arrivals),
             bell,
+            is_out: false,
             faults: 0,
             has_failed: false,
         }
@@ -122,14 +126,19 @@ impl<R: Net<Listener = TcpListener, Stream = TcpStream> + Copy> TcpDoor<R> {
 
 impl<R: Net<Listener = TcpListener, Stream = TcpStream> + Clock + Wait + Copy> TcpDoor<R> {
     // The connection that is handed on within about 10 milliseconds, if one is; an error if the listener failed.
-    fn next_arrival(&self) -> Result<Option<Arrival>, Failed>
-        ensures { self.now.arrivals ≡ None → IsErr result }
+    fn next_arrival(&mut self) -> Result<Option<Arrival>, Failed>
+        ensures absent { self.old.arrivals ≡ None → IsErr result }
+        ensures has_failed { self.new.has_failed ≡ self.old.has_failed }
+        ensures faults { self.new.faults ≡ self.old.faults }
     {
         let Some(arrivals) = &self.arrivals else {
             return Err(Failed);
         };
-        match next_of(&self.rt, arrivals) {
-            Ok(arrival) => Ok(arrival),
+        match next_of(&self.rt, arrivals, self.is_out) {
+            Ok(arrival) => {
+                self.is_out = arrival.is_some();
+                Ok(arrival)
+            }
             Err(_) => Err(Failed),
         }
     }

@@ -61,12 +61,12 @@ fn is_upload(request: &Request, wanted: &str, prints: bool) -> bool {
     match request {
         Request::PutFile {
             name,
-            bytes,
+            file,
             select,
             print,
         } => {
             name.as_str() == wanted
-                && bytes.as_slice() == b"G28\nG1 X10\n".as_slice()
+                && file.bytes() == b"G28\nG1 X10\n".as_slice()
                 && !*select
                 && *print == prints
         }

@@ -8,6 +8,8 @@ mod methods;
 mod origins;
 mod page;
 mod shown;
+mod staging;
+mod strangers;
 
 use super::conn_of;
 use byte_text::Name;
@@ -16,6 +18,7 @@ use octo_access::GroupNames;
 use octo_api_routes::Routes;
 use octo_api_worker::{Terms, serve_conn, worker};
 use octo_asks::{Answer, Ask, Asker, Closed, Request, ShownHeat};
+use octo_keeper::NoStager;
 use octo_outside::{CallList, MemoryConn, NameList, calls_of};
 use octo_outside_doors::{ConnList, MemoryDoor};
 use std::alloc::{AllocError, Global};
@@ -166,6 +169,18 @@ fn statuses(alloc: Global, door: &MemoryDoor) -> Result<Vec<u8>, AllocError> {
     Ok(texts)
 }
 
+// Whether the door of a worker with this host held. Nothing is staged.
+fn works_at(
+    rt: &(impl Wait + Abort),
+    alloc: Global,
+    door: &mut MemoryDoor,
+    host: &mut Host,
+) -> Result<bool, AllocError> {
+    let routes = Routes::new(alloc)?;
+    let (stager, terms) = (&mut NoStager::new(0), terms(alloc));
+    Ok(worker(rt, alloc, &routes, door, host, stager, &terms))
+}
+
 // Whether the door of a worker with this host held, and the statuses of the replies at it.
 fn left_by(
     rt: &(impl Wait + Abort),
@@ -174,8 +189,7 @@ fn left_by(
     host: &mut Host,
 ) -> Result<(bool, Vec<u8>), AllocError> {
     let mut door = door;
-    let routes = Routes::new(alloc)?;
-    let holds = worker(rt, alloc, &routes, &mut door, host, &terms(alloc));
+    let holds = works_at(rt, alloc, &mut door, host)?;
     Ok((holds, statuses(alloc, &door)?))
 }
 
@@ -277,8 +291,7 @@ fn upload_door(alloc: Global, number: u64) -> Result<MemoryDoor, AllocError> {
 fn serve_upload(rt: &(impl Wait + Abort), alloc: Global, number: u64) -> Result<MemoryDoor, Fail> {
     let mut door = upload_door(alloc, number)?;
     let mut host = Host::open_for(10);
-    let routes = Routes::new(alloc)?;
-    let holds = worker(rt, alloc, &routes, &mut door, &mut host, &terms(alloc));
+    let holds = works_at(rt, alloc, &mut door, &mut host)?;
     assert_eq!(rt; (holds, host.left), (true, 1));
     Ok(door)
 }
@@ -313,21 +326,15 @@ fn each_call_of_an_upload_failing(rt: HostRuntime) -> Result<(), Fail> {
 // Whether a message is replied to.
 fn serves(alloc: Global, routes: &Routes, host: &mut Host) -> Result<bool, AllocError> {
     let mut conn = conn_of(alloc, VERSION)?;
-    let is_open = serve_conn(alloc, routes, &mut conn, host, &terms(alloc));
+    let mut stager = NoStager::new(0);
+    let is_open = serve_conn(alloc, routes, &mut conn, host, &mut stager, &terms(alloc));
     let written = conn.written().unwrap_or(b"");
     Ok(is_open && written.get(9..12).unwrap_or(b"-") == b"200".as_slice())
 }
 
-// Two messages are replied to by the same table of routes.
-fn serves_two(
-    rt: &impl Abort,
-    alloc: Global,
-    routes: &Routes,
-    host: &mut Host,
-) -> Result<(), Fail> {
-    assert!(rt; serves(alloc, routes, host)?);
-    assert!(rt; serves(alloc, routes, host)?);
-    Ok(())
+// Whether two messages are replied to by the same table of routes.
+fn serves_two(alloc: Global, routes: &Routes, host: &mut Host) -> Result<bool, AllocError> {
+    Ok(serves(alloc, routes, host)? && serves(alloc, routes, host)?)
 }
 
 // The calls that take memory, each once: two connections, and then one at a door.
@@ -335,7 +342,7 @@ fn serves_two(
 fn ample(rt: HostRuntime) -> Result<(), Fail> {
     let alloc = rt.alloc();
     let mut host = Host::open_for(4);
-    serves_two(&rt, alloc, &Routes::new(alloc)?, &mut host)?;
+    assert!(rt; serves_two(alloc, &Routes::new(alloc)?, &mut host)?);
     let conns = with_conn(alloc, ConnList::new(alloc), VERSION)?;
     let door = door_of(alloc, conns);
     works(&rt, alloc, door, host, (true, b"200 ".as_slice(), (4, 1)))

@@ -1,7 +1,7 @@
 //! A bell that is rung before its ears wait.
 use octo_outside::Clock;
 use octo_outside_bell::{Bell, Ear, EarClock, bell_and_ear};
-use std::net::TcpListener;
+use std::net::{TcpListener, TcpStream};
 use std::os::fd::AsRawFd;
 use std::test::Fail;
 use std::time::{Duration, Instant};
@@ -50,6 +50,44 @@ fn rings_beside(rt: HostRuntime) -> Result<(), Fail> {
     Ok(())
 }
 
+// A wait beside a descriptor that has input ends, and says so; a deaf ear waits in the same way.
+#[test]
+fn input_beside(rt: HostRuntime) -> Result<(), Fail> {
+    let (_bell, ear) = bell_and_ear(&rt, rt.alloc())?;
+    let listener = TcpListener::bind(&rt, "127.0.0.1:0")?;
+    let _peer = TcpStream::connect(&rt, listener.local_addr()?)?;
+    let start = Instant::now(&rt)?;
+    assert!(rt; ear.wait_beside(listener.as_raw_fd(), 30_000));
+    assert!(rt; Ear::deaf().wait_beside(listener.as_raw_fd(), 30_000));
+    assert!(rt; start.elapsed(&rt)? < Duration::from_secs(10));
+    Ok(())
+}
+
+// After a wait beside a descriptor, which no ring ended, the next wait for a ring alone doesn't wait, and the one after it does.
+#[test]
+fn no_second_wait(rt: HostRuntime) -> Result<(), Fail> {
+    let (_bell, mut ear) = bell_and_ear(&rt, rt.alloc())?;
+    let listener = TcpListener::bind(&rt, "127.0.0.1:0")?;
+    assert!(rt; !ear.copy().wait_beside(listener.as_raw_fd(), 1));
+    assert!(rt; ends_soon(&rt, &mut ear)?);
+    assert!(rt; lasts(&rt, &mut ear)?);
+    Ok(())
+}
+
+// No ring waits, also if nobody takes the rings, or nobody can hear them any more.
+#[test]
+fn unheard_rings(rt: HostRuntime) -> Result<(), Fail> {
+    let (mut bell, mut ear) = bell_and_ear(&rt, rt.alloc())?;
+    for _ in 0..100_000 {
+        bell.ring();
+    }
+    assert!(rt; ends_soon(&rt, &mut ear)?);
+    drop(ear);
+    bell.ring();
+    bell.copy().ring();
+    Ok(())
+}
+
 // Nobody hears a silent bell, and a deaf ear waits each time.
 #[test]
 fn silence(rt: HostRuntime) -> Result<(), Fail> {
@@ -73,5 +111,17 @@ fn rests(rt: HostRuntime) -> Result<(), Fail> {
     let before = clock.now();
     clock.rest();
     assert!(rt; clock.now() >= before.saturating_add(9));
+    Ok(())
+}
+
+// With a deaf ear each rest goes on for a millisecond.
+#[test]
+fn deaf_rests(rt: HostRuntime) -> Result<(), Fail> {
+    let mut clock = EarClock::new(rt, Ear::deaf());
+    let before = clock.now();
+    for _ in 0..20 {
+        clock.rest();
+    }
+    assert!(rt; clock.now() >= before.saturating_add(19));
     Ok(())
 }

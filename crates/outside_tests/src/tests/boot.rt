@@ -3,7 +3,8 @@ ghost use Rattle.std.specs.Prelude.{None};
 
 use byte_text::{Line, ReplyLine};
 use printer_link::{Heard, Link, LinkFault};
-use printer_link_socket::{Dial, PortLink};
+use printer_link_cause::{Cause, WatchedLink};
+use printer_link_socket::{Dial, Opened, PortLink};
 use std::io;
 use std::io::{ErrorKind, Read, Write};
 use std::os::fd::{AsRawFd, RawFd};
@@ -76,11 +77,15 @@ struct Ports {
 impl Dial for Ports {
     type Stream = Printer;
 
-    fn open(&mut self, _name: &str) -> Option<Printer> {
-        Some(Printer {
+    fn open(&mut self, _name: &str) -> Result<Opened<Printer>, Cause> {
+        Ok(Opened::Ready(Printer {
             script: self.script,
             reads: 0,
-        })
+        }))
+    }
+
+    fn go_on(&mut self, stream: Printer) -> Result<Opened<Printer>, Cause> {
+        Ok(Opened::Ready(stream))
     }
 
     fn refuse(&mut self, _name: &str) {}
@@ -186,6 +191,7 @@ fn endless_speech(rt: HostRuntime) {
     }
     assert!(rt; !link.is_up());
     assert!(rt; last == Some(68));
+    assert!(rt; link.cause() == Some(Cause::NeverSilent));
 }
 
 // Over a socket the first line is written at once, unless a boot time is given.

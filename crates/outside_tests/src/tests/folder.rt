@@ -1,6 +1,6 @@
 //! Files in a folder of their own.
 use byte_text::Name;
-use octo_keeper::{Shelf, ShelfFault};
+use octo_keeper::{Shelf, ShelfFault, Stager};
 use octo_keeper_folder::FolderShelf;
 use std::fs;
 use std::test::Fail;
@@ -17,7 +17,7 @@ fn puts<S: Shelf>(
     text: &str,
     bytes: &[u8],
 ) -> Option<Result<(), ShelfFault>> {
-    Some(shelf.put(rt.alloc(), &Name::from_text(text)?, bytes))
+    Some(shelf.put(rt.alloc(), &Name::from_text(text)?, bytes, None))
 }
 
 fn removes<S: Shelf>(
@@ -30,14 +30,14 @@ fn removes<S: Shelf>(
 
 // Whether a shelf holds these bytes under this name; `None` if it holds nothing there.
 fn holds<S: Shelf>(rt: &HostRuntime, shelf: &mut S, text: &str, bytes: &[u8]) -> Option<bool> {
-    let kept = shelf.get(rt.alloc(), &Name::from_text(text)?).ok()??;
+    let kept = shelf.get(rt.alloc(), &Name::from_text(text)?, None).ok()??;
     Some(kept.as_slice() == bytes)
 }
 
 fn has_none<S: Shelf>(rt: &HostRuntime, shelf: &mut S, text: &str) -> Option<bool> {
     Some(
         shelf
-            .get(rt.alloc(), &Name::from_text(text)?)
+            .get(rt.alloc(), &Name::from_text(text)?, None)
             .ok()?
             .is_none(),
     )
@@ -159,5 +159,59 @@ fn a_put_elsewhere(rt: HostRuntime) -> Result<(), Fail> {
         Some(Err(ShelfFault::Failed))
     );
     fs::remove_dir_all(&rt, "folder_shelf_elsewhere")?;
+    Ok(())
+}
+
+// Puts bytes with a part, and returns whether the shelf then holds them.
+fn puts_part<S: Shelf>(
+    rt: &HostRuntime,
+    shelf: &mut S,
+    bytes: &[u8],
+    part: Option<u8>,
+) -> Option<bool> {
+    let name = Name::from_text("a.gcode")?;
+    shelf.put(rt.alloc(), &name, bytes, part).ok()?;
+    holds(rt, shelf, "a.gcode", bytes)
+}
+
+// A part isn't listed. It becomes the file, and nothing of it is left to remove.
+#[test]
+fn a_part(rt: HostRuntime) -> Result<(), Fail> {
+    let mut shelf = shelf(&rt, "folder_shelf_staged")?;
+    let mut stager = shelf.stager(2)?;
+    let part = stager.stage(b"G28\n");
+    assert!(rt; part == Some(2) && fs::exists(&rt, "folder_shelf_staged/.part-2")?);
+    assert!(rt; listed(&rt, &mut shelf).is_none());
+    assert_eq!(rt; puts_part(&rt, &mut shelf, b"G28\n", part), Some(true));
+    assert!(rt; !fs::exists(&rt, "folder_shelf_staged/.part-2")?);
+    stager.clear();
+    assert!(rt; listed(&rt, &mut shelf) == Some((1, 4)));
+    fs::remove_dir_all(&rt, "folder_shelf_staged")?;
+    Ok(())
+}
+
+// Of a part of another size the bytes aren't taken. It stays until it is removed.
+#[test]
+fn a_part_of_another_size(rt: HostRuntime) -> Result<(), Fail> {
+    let mut shelf = shelf(&rt, "folder_shelf_size")?;
+    let mut stager = shelf.stager(0)?;
+    let part = stager.stage(b"G28\n");
+    assert_eq!(rt; puts_part(&rt, &mut shelf, b"G29 X1\n", part), Some(true));
+    assert!(rt; fs::exists(&rt, "folder_shelf_size/.part-0")?);
+    stager.clear();
+    assert!(rt; !fs::exists(&rt, "folder_shelf_size/.part-0")?);
+    fs::remove_dir_all(&rt, "folder_shelf_size")?;
+    Ok(())
+}
+
+// A part that was left is removed when a stager begins, and no part is put that isn't there.
+#[test]
+fn a_part_that_was_left(rt: HostRuntime) -> Result<(), Fail> {
+    let mut shelf = shelf(&rt, "folder_shelf_left")?;
+    fs::write(&rt, "folder_shelf_left/.part-3", "G28\n")?;
+    let _stager = shelf.stager(3)?;
+    assert!(rt; !fs::exists(&rt, "folder_shelf_left/.part-3")?);
+    assert_eq!(rt; puts_part(&rt, &mut shelf, b"G28\n", Some(3)), Some(true));
+    fs::remove_dir_all(&rt, "folder_shelf_left")?;
     Ok(())
 }

@@ -1,7 +1,8 @@
 //! The link to ports against peers on this machine, and the names that it lists.
 use byte_text::{Line, ReplyLine};
 use printer_link::{Heard, Link, LinkFault};
-use printer_link_socket::{PortLink, SystemPorts, names_address, names_port};
+use printer_link_ports::SystemPorts;
+use printer_link_socket::{PortLink, names_address, names_port};
 use std::io::{Read, Write};
 use std::net::{Shutdown, TcpListener, TcpStream};
 use std::os::unix::net::UnixListener;

@@ -2,13 +2,16 @@
 ghost use Rattle.std.specs.Prelude.{◌≡◌, false};
 ghost use Rattle.printer_link.specs.Memory.{link_world};
 
+mod causes;
+mod pending;
 mod progress;
 mod refusals;
 
 use super::keeper::only;
 use byte_text::Name;
 use octo_keeper::{Change, Keeper, MemoryKeeper, MemoryShelf, Shelf, Tables};
-use octo_log::{LoggedKeeper, LoggedLink, LoggedShelf, log_serving, log_stopped};
+use octo_log::{LoggedKeeper, LoggedShelf, log_serving, log_stopped};
+use octo_log_link::LoggedLink;
 use octo_outside::{CallList, MemoryClock, MemorySink, NameList};
 use print_queue::{Ending, Outcome, PrintRow};
 use printer_link::{FateList, Link, LinkFault, MemoryLink, Schedule};
@@ -39,6 +42,7 @@ fn new_memory_link(rt: &impl Abort, alloc: Global) -> MemoryLink
         slow: 0,
         fail_at: CallList::new(alloc),
         restart_at: CallList::new(alloc),
+        lost: CallList::new(alloc),
     };
     MemoryLink::new(alloc, schedule).expect(rt, "no memory")
 }
@@ -98,7 +102,7 @@ fn logged_files(rt: HostRuntime) {
     let inner = MemoryShelf::new(alloc, only(&rt, alloc, 2));
     let mut shelf = LoggedShelf::new(inner, new_log(alloc));
     let file = name(&rt, "a\nb.gcode");
-    assert!(rt; shelf.put(alloc, &file, b"G28\n").is_ok());
+    assert!(rt; shelf.put(alloc, &file, b"G28\n", None).is_ok());
     assert!(rt; shelf.remove(alloc, &file).is_err());
     let wanted: &[u8] = b"file a?b.gcode: stored\nfile a?b.gcode: it can't be deleted\n";
     assert!(rt; shelf.log().written() == Some(wanted));

@@ -133,7 +133,12 @@ fn named_refusals(rt: HostRuntime) -> Result<(), Fail> {
     )?;
     shows(&rt, alloc, Answer::NoFile, 404, "{\"error\":\"NoFile\"}")?;
     shows(&rt, alloc, Answer::NoUser, 404, "{\"error\":\"NoUser\"}")?;
-    shows(&rt, alloc, Answer::NoEntry, 404, "{\"error\":\"NoEntry\"}")?;
+    shows(&rt, alloc, Answer::NoEntry, 404, "{\"error\":\"NoEntry\"}")
+}
+
+#[test]
+fn named_conflicts(rt: HostRuntime) -> Result<(), Fail> {
+    let alloc = rt.alloc();
     shows(
         &rt,
         alloc,
@@ -154,7 +159,12 @@ fn named_refusals(rt: HostRuntime) -> Result<(), Fail> {
         Answer::ArrivalsUsed,
         409,
         "{\"error\":\"ArrivalsUsed\"}",
-    )?;
+    )
+}
+
+#[test]
+fn named_faults(rt: HostRuntime) -> Result<(), Fail> {
+    let alloc = rt.alloc();
     shows(
         &rt,
         alloc,

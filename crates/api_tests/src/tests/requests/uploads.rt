@@ -26,12 +26,12 @@ fn is_file(request: &Request, wanted: &str) -> bool {
     match request {
         Request::PutFile {
             name,
-            bytes,
+            file,
             select,
             print,
         } => {
             name.as_str() == wanted
-                && bytes.as_slice() == b"G28 ; --XY\r\nG1 X10\n".as_slice()
+                && file.bytes() == b"G28 ; --XY\r\nG1 X10\n".as_slice()
                 && !*select
                 && !*print
         }

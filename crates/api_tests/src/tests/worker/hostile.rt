@@ -3,6 +3,7 @@ use super::super::conn_of;
 use super::{Host, UPLOAD, terms};
 use octo_api_routes::Routes;
 use octo_api_worker::serve_conn;
+use octo_keeper::NoStager;
 use octo_outside::Blob;
 use std::alloc::{AllocError, Global};
 use std::process::Abort;
@@ -119,6 +120,7 @@ fn replies(alloc: Global, input: &[u8], status: &str, end: &str) -> Result<bool,
         &Routes::new(alloc)?,
         &mut conn,
         &mut host,
+        &mut NoStager::new(0),
         &terms(alloc),
     );
     let written = conn.written().unwrap_or(b"");
@@ -150,6 +152,7 @@ fn is_silent(alloc: Global, input: &[u8]) -> Result<bool, AllocError> {
         &Routes::new(alloc)?,
         &mut conn,
         &mut host,
+        &mut NoStager::new(0),
         &terms(alloc),
     );
     let written = conn.written().unwrap_or(b"none");

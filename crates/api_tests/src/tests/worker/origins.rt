@@ -4,6 +4,7 @@ use super::{Host, VERSION_REPLY};
 use byte_text::Name;
 use octo_api_routes::Routes;
 use octo_api_worker::{Terms, serve_conn};
+use octo_keeper::NoStager;
 use octo_outside::NameList;
 use std::alloc::{AllocError, Global};
 use std::test::Fail;
@@ -24,7 +25,15 @@ fn replies(alloc: Global, asks: u32, input: &[u8], reply: &[u8]) -> Result<bool,
     let terms = two_origins(alloc)?;
     let mut conn = conn_of(alloc, input)?;
     let mut host = Host::open_for(asks);
-    let _ = serve_conn(alloc, &Routes::new(alloc)?, &mut conn, &mut host, &terms);
+    let mut stager = NoStager::new(0);
+    let _ = serve_conn(
+        alloc,
+        &Routes::new(alloc)?,
+        &mut conn,
+        &mut host,
+        &mut stager,
+        &terms,
+    );
     Ok(conn.written() == Some(reply))
 }
 

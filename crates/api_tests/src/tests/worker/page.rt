@@ -3,6 +3,7 @@ use super::super::conn_of;
 use super::{Host, terms};
 use octo_api_routes::Routes;
 use octo_api_worker::serve_conn;
+use octo_keeper::NoStager;
 use std::alloc::{AllocError, Global};
 use std::process::Abort;
 use std::test::Fail;
@@ -26,6 +27,7 @@ fn shows(alloc: Global, input: &[u8], begin: &[u8], end: &[u8]) -> Result<bool, 
         &Routes::new(alloc)?,
         &mut conn,
         &mut host,
+        &mut NoStager::new(0),
         &terms(alloc),
     );
     let written = conn.written().unwrap_or(b"");

@@ -3,6 +3,7 @@ use super::super::conn_of;
 use super::{Host, terms};
 use octo_api_routes::Routes;
 use octo_api_worker::serve_conn;
+use octo_keeper::NoStager;
 use octo_outside::Blob;
 use std::alloc::{AllocError, Global};
 use std::process::Abort;
@@ -65,6 +66,7 @@ fn shows(alloc: Global, path: &str, body: &str) -> Result<bool, AllocError> {
         &Routes::new(alloc)?,
         &mut conn,
         &mut host,
+        &mut NoStager::new(0),
         &terms(alloc),
     );
     Ok(is_open && conn.written().unwrap_or(b"").ends_with(body.as_bytes()))
@@ -100,6 +102,7 @@ fn replies(alloc: Global, input: &[u8], status: &[u8], body: &[u8]) -> Result<bo
         &Routes::new(alloc)?,
         &mut conn,
         &mut host,
+        &mut NoStager::new(0),
         &terms(alloc),
     );
     let written = conn.written().unwrap_or(b"");

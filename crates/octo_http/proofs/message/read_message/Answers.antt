@@ -1,79 +1,40 @@
-use Rattle.std.proofs.Common.{refl, arith}
+use Rattle.std.proofs.Common.{ℕ, List, Option, subst, arith, refl, sym, ◌∙◌}
+use Rattle.std.specs.Prelude.{Err}
+use Rattle.octo_outside.specs.Recorded.{AddsPrefix}
 use Rattle.octo_outside.proofs.Recorded.{rose_after}
-use Rattle.octo_http.proofs.Reading.{caused_since}
-use Rattle.octo_http.proofs.MessageLemmas.{head_fault, bounded_same, patient_at, failed_with, continue_fault, bounded_cut, patient_continue, body_fault, bounded_all, asked_only, waits_both, message_read, patient_read}
+use Rattle.octo_http.specs.Message.{continue_line, Writes, Answers, IsPatient}
+use Rattle.octo_http.proofs.MessageLemmas.{is_err, head_fault, patient_head, bounded_same}
 use Rattle.octo_http.proofs.message.read_message.Goals as goal
 
-pub returns-in_err-head-clause-answer : goal.returns-in_err-head-clause-answer
-returns-in_err-head-clause-answer g c =
-    head_fault c.args.patience c.new-intake.result _ _ _ _ _ c.in_err-head.field-0.0 c.new-intake.ensures c.in_err-head.ensures.stops c.in_err-head.ensures.written c.from_residual.ensures.1
+pub returns-in_err-begun-clause-answer : goal.returns-in_err-begun-clause-answer
+returns-in_err-begun-clause-answer g c =
+    head_fault _ _ _ _ _ c.in_err-begun.field-0.0 c.in_err-begun.ensures.written c.in_err-begun.ensures.stopped c.from_residual.ensures.1
 
-pub returns-in_err-head-clause-bounded : goal.returns-in_err-head-clause-bounded
-returns-in_err-head-clause-bounded g c = bounded_same _ _ c.in_err-head.ensures.written
+pub returns-in_err-begun-clause-bounded : goal.returns-in_err-begun-clause-bounded
+returns-in_err-begun-clause-bounded g c = bounded_same _ _ c.in_err-begun.ensures.written
 
-pub returns-in_err-head-clause-patient : goal.returns-in_err-head-clause-patient
-returns-in_err-head-clause-patient g c =
-    patient_at c.args.patience c.new-intake.result _ _ _ _ _ _ _ c.in_err-head.field-0.0 c.new-intake.ensures c.in_err-head.ensures.waits c.in_err-head.ensures.caused c.from_residual.ensures.1
-
-pub returns-in_err-head-clause-counts : goal.returns-in_err-head-clause-counts
-returns-in_err-head-clause-counts g c = record {
-  later = c.in_err-head.ensures.waits.kept;
-  rose = failed_with c.read_head.new.intake _ _ _ c.in_err-head.field-0.0 c.in_err-head.ensures.caused c.from_residual.ensures.1;
-}
-
-pub returns-in-Err-clause-answer : goal.returns-in-Err-clause-answer
-returns-in-Err-clause-answer g c =
-    continue_fault c.args.patience c.new-intake.result _ _ _ _ _ _ _ c.in_ok-head.head c.new-intake.ensures c.in_ok-head.ensures.head c.in-Err.ensures.left c.in_ok-head.ensures.written c.in-Err.ensures.err
-
-pub returns-in-Err-clause-bounded : goal.returns-in-Err-clause-bounded
-returns-in-Err-clause-bounded g c = bounded_cut _ _ _ c.in_ok-head.head c.in_ok-head.ensures.written c.in-Err.ensures.err
-
-pub returns-in-Err-clause-patient : goal.returns-in-Err-clause-patient
-returns-in-Err-clause-patient g c =
-    patient_continue c.args.patience c.new-intake.result _ _ _ _ _ _ c.new-intake.ensures c.in_ok-head.ensures.waits c.in-Err.ensures.quiets
-
-pub returns-in-Err-clause-counts : goal.returns-in-Err-clause-counts
-returns-in-Err-clause-counts g c = record {
-  later = omega (arith, c.in_ok-head.ensures.waits.kept, c.in-Err.ensures.counts.later);
-  rose = λ is. rose_after _ _ _ c.in_ok-head.ensures.waits.kept c.in-Err.ensures.counts.later (c.in-Err.ensures.counts.rose refl);
-}
-
-pub returns-in_err-body-clause-answer : goal.returns-in_err-body-clause-answer
-returns-in_err-body-clause-answer g c =
-    body_fault c.args.patience c.new-intake.result _ _ _ _ _ _ _ _ _ c.in_ok-head.head _ c.in_err-body.field-0.0 c.new-intake.ensures c.in_ok-head.ensures.head
-    c.in-Ok.ensures.left c.in_ok-head.ensures.written c.in-Ok.ensures.ok c.in_err-body.ensures.written c.in_err-body.ensures.stops c.from_residual-in_err-body.ensures.1
-
-pub returns-in_err-body-clause-bounded : goal.returns-in_err-body-clause-bounded
-returns-in_err-body-clause-bounded g c =
-    bounded_all _ _ c.in_ok-head.head (asked_only _ _ _ _ c.in_ok-head.head c.in_ok-head.ensures.written c.in-Ok.ensures.ok c.in_err-body.ensures.written)
-
-pub returns-in_err-body-clause-patient : goal.returns-in_err-body-clause-patient
-returns-in_err-body-clause-patient g c =
-    patient_at c.args.patience c.new-intake.result _ _ _ _ _ _ _ c.in_err-body.field-0.0 c.new-intake.ensures
-    (waits_both _ _ _ _ _ _ _ _ _ _ _ c.in_ok-head.ensures.waits c.in-Ok.ensures.quiets c.in-Ok.ensures.counts.later c.in_err-body.ensures.waits)
-    c.in_err-body.ensures.caused c.from_residual-in_err-body.ensures.1
-
-pub returns-in_err-body-clause-counts : goal.returns-in_err-body-clause-counts
-returns-in_err-body-clause-counts g c =
-    let kept = c.in_err-body.ensures.waits.kept in
-    record {
-      later = omega (arith, c.in_ok-head.ensures.waits.kept, c.in-Ok.ensures.counts.later, kept);
-      rose = failed_with c.read_body.new.intake _ _ _ c.in_err-body.field-0.0
-          (caused_since c.read_body.new.intake _ _ _ c.in_err-body.field-0.0 (omega (arith, c.in_ok-head.ensures.waits.kept, c.in-Ok.ensures.counts.later)) kept
-          c.in_err-body.ensures.caused)
-          c.from_residual-in_err-body.ensures.1;
-    }
+pub returns-in_err-begun-clause-patient : goal.returns-in_err-begun-clause-patient
+returns-in_err-begun-clause-patient g c =
+    patient_head c.args.patience _ _ _ c.in_err-begun.field-0.0 c.in_err-begun.ensures.patient c.from_residual.ensures.1
 
 pub returns-clause-answer : goal.returns-clause-answer
-returns-clause-answer g c =
-    message_read c.args.patience c.new-intake.result _ _ _ _ _ _ _ _ _ _ c.in_ok-head.head c.in_ok-body.body _ c.new-intake.ensures c.in_ok-head.ensures.head
-    c.in-Ok.ensures.left c.in_ok-head.ensures.written c.in-Ok.ensures.ok c.in_ok-body.ensures.written c.in_ok-body.ensures.body c.message_of.ensures
+returns-clause-answer g c input told =
+    let From : Option (List ℕ) → Type 0 =
+    λ old. Writes old (g.C.Conn.written c.read_rest.new.conn) (Answers input (g.C.Conn.left c.read_rest.new.conn) c.read_rest.result) in
+    subst From c.in_ok-begun.ensures.written (c.read_rest.ensures.answer input (c.in_ok-begun.ensures.begun input told))
 
 pub returns-clause-bounded : goal.returns-clause-bounded
 returns-clause-bounded g c =
-    bounded_all _ _ c.in_ok-head.head (asked_only _ _ _ _ c.in_ok-head.head c.in_ok-head.ensures.written c.in-Ok.ensures.ok c.in_ok-body.ensures.written)
+    let From : Option (List ℕ) → Type 0 = λ old. AddsPrefix old (g.C.Conn.written c.read_rest.new.conn) continue_line in
+    subst From c.in_ok-begun.ensures.written c.read_rest.ensures.bounded
 
 pub returns-clause-patient : goal.returns-clause-patient
 returns-clause-patient g c =
-    patient_read c.args.patience c.new-intake.result _ _ _ _ _ _ c.new-intake.ensures
-    (waits_both _ _ _ _ _ _ _ _ _ _ _ c.in_ok-head.ensures.waits c.in-Ok.ensures.quiets c.in-Ok.ensures.counts.later c.in_ok-body.ensures.waits)
+    let For : ℕ → Type 0 = λ p. IsPatient p (g.C.Conn.quiets c.args.conn.now) (g.C.Conn.quiets c.read_rest.new.conn) c.read_rest.result in
+    subst For c.in_ok-begun.ensures.patience (c.read_rest.ensures.patient (g.C.Conn.quiets c.args.conn.now) c.in_ok-begun.ensures.waited)
+
+pub returns-clause-counts : goal.returns-clause-counts
+returns-clause-counts g c = record {
+  later = omega (arith, c.in_ok-begun.ensures.counts.later, c.read_rest.ensures.counts.later);
+  rose = λ failed. rose_after _ _ _ c.in_ok-begun.ensures.counts.later c.read_rest.ensures.counts.later (c.read_rest.ensures.counts.rose failed);
+}

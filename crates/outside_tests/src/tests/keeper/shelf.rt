@@ -12,7 +12,7 @@ fn file(rt: &impl Abort) -> Name {
 // A shelf with a file. The call with this number fails.
 fn shelf(rt: &impl Abort, alloc: Global, fails: u64) -> MemoryShelf {
     let mut shelf = MemoryShelf::new(alloc, only(rt, alloc, fails));
-    assert_eq!(rt; shelf.put(alloc, &file(rt), b"G28\n"), Ok(()));
+    assert_eq!(rt; shelf.put(alloc, &file(rt), b"G28\n", None), Ok(()));
     shelf
 }
 
@@ -21,7 +21,7 @@ fn removes(rt: &impl Abort, alloc: Global, shelf: &mut MemoryShelf) -> Result<()
 }
 
 fn holds(rt: &impl Abort, alloc: Global, shelf: &mut MemoryShelf) -> bool {
-    match shelf.get(alloc, &file(rt)) {
+    match shelf.get(alloc, &file(rt), None) {
         Ok(Some(kept)) => kept.as_slice() == b"G28\n".as_slice(),
         _ => false,
     }
