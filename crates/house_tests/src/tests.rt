@@ -1,5 +1,6 @@
 //! Lists of asks over a keeper, a shelf and a link in memory.
 mod bench;
+mod downloads;
 mod faults;
 mod lost_oks;
 mod prints;

@@ -6,10 +6,11 @@ use octo_files::{DOOR_FAILED, LINK_FAILED, OUTPUT_FAILED, SOURCE_FAILED, STORE_F
 use octo_keeper::KeeperFault;
 use octo_outside::{ArgumentsFault, WordList};
 use octo_words::{Command, FilePath, read_words};
+use printer_link_cause::{Cause, cause_words};
 use printer_link_socket::{names_address, names_port};
 use std::io::{ErrorKind, Read};
 use std::net::TcpListener;
-use std::{fs, io};
+use std::{fs, io, str};
 
 // Says why the arguments can't be used.
 pub(crate) fn say_of_arguments(rt: &HostRuntime, fault: ArgumentsFault) {
@@ -66,6 +67,25 @@ fn say_of_port(rt: &HostRuntime, command: &Command) {
             "octo: {} isn't HOST:PORT, unix:PATH or tty:PATH",
             port.as_str()
         );
+    }
+}
+
+// Says of a port why its link failed.
+fn say_of_cause(rt: &HostRuntime, command: &Command, cause: Cause) {
+    if let Command::Print { port, .. } = command {
+        let text = cause_words(cause);
+        let said = str::from_utf8(text.as_slice()).unwrap_or("");
+        let _ = eprintln!(rt; "octo: {}: {said}", port.as_str());
+    }
+}
+
+// Says why the link of a print failed. A host's log says it of a host's.
+pub(crate) fn say_of_link(rt: &HostRuntime, words: &WordList, code: u8, cause: Cause) {
+    if code != LINK_FAILED {
+        return;
+    }
+    if let Ok(command) = read_words(rt.alloc(), words) {
+        say_of_cause(rt, &command, cause);
     }
 }
 

@@ -11,14 +11,15 @@ mod showing;
 
 use absent::{AbsentKeeper, absent_doors};
 use byte_text::Name;
-use causes::{say_of_arguments, say_of_database, say_of_end};
+use causes::{say_of_arguments, say_of_database, say_of_end, say_of_link};
 use host_log::{HostDoors, HostLog, with_log};
 use octo_commands::octo;
 use octo_files::{OUTPUT_FAILED, Report, SUCCESS, read_settings_of};
 use octo_keeper::{Keeper, settle_prints};
 use octo_keeper_file::{close_keeper, open_keeper};
 use octo_keeper_folder::FolderShelf;
-use octo_log::{LoggedKeeper, LoggedLink, LoggedShelf, log_serving, log_stopped};
+use octo_log::{LoggedKeeper, LoggedShelf, log_serving, log_stopped};
+use octo_log_link::LoggedLink;
 use octo_outside::{
     ArgumentsFault, Blob, FileSource, StdSink, SystemClock, WordList, arguments, write_all,
 };
@@ -26,7 +27,9 @@ use octo_outside_bell::{Ear, EarClock, bell_and_ear};
 use octo_outside_doors::{Doors, TcpDoor};
 use octo_serve_command::{HostReport, Opened, write_host_report};
 use octo_words::{Command, Remark, WordsFault, read_words, remark_on};
-use printer_link_socket::{PortLink, SystemPorts};
+use printer_link_cause::WatchedLink;
+use printer_link_ports::SystemPorts;
+use printer_link_socket::PortLink;
 use showing::{view_of, with_progress};
 use std::alloc::AllocError;
 use std::net::{Net, TcpListener, TcpStream};
@@ -118,6 +121,9 @@ fn carry_out<
         HostLog::new(system, is_logged),
     );
     say_of_end(system, words, status.code);
+    if let Some(cause) = link.cause() {
+        say_of_link(system, words, status.code, cause);
+    }
     ExitCode::from(status.code)
 }
 

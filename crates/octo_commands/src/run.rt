@@ -12,6 +12,7 @@ ghost use Rattle.octo_serve_command.specs.Reports.{host_code};
 ghost use Rattle.octo_serve_command.specs.declared.report.HostReport.{HostReport};
 ghost use Rattle.octo_commands.specs.Commands.{Comes, HasCauses, HasPlainCauses, HasWaitedFor, IsCheck, IsWritten, Reports, hosted_by, words_fault_report};
 ghost use Rattle.octo_commands.specs.Enough.{HasEnough};
+ghost use Rattle.printer_link.specs.Suits.{SuitsAs};
 
 use crate::demo::demo;
 use hand_over::History;
@@ -83,6 +84,7 @@ fn carry_out<F: Source, L: Link, T: Clock>(
     clock: &mut T,
 ) -> Report
     requires down { L.up link.old ≡ false }
+    requires suits { SuitsAs false (L.past link.old) (L.kind link.old).oks }
     requires range { IsInRange command.now }
     requires plain { hosted_by command.now ≡ None }
     ensures reports { Reports (L.kind link.old) (F.files files.old)
@@ -160,7 +162,8 @@ fn run<
     doors: &mut Doors<D>,
     log: G,
 ) -> HostEnd
-    requires { L.up link.old ≡ false }
+    requires down { L.up link.old ≡ false }
+    requires suits { SuitsAs false (L.past link.old) (L.kind link.old).oks }
     ensures comes { let at = around (link_state L.kind L.past L.calls L.up L.faults) T.moment
         (keeper_state K.tables K.faults) (shelf_state S.files S.faults)
         (door_state D.coming D.served D.faults) in
@@ -226,7 +229,8 @@ pub fn octo<
     doors: &mut Doors<D>,
     log: G,
 ) -> Status
-    requires { L.up link.old ≡ false }
+    requires down { L.up link.old ≡ false }
+    requires suits { SuitsAs false (L.past link.old) (L.kind link.old).oks }
 
     // The arguments come to a report `r`, and each failure in it has its cause. It is written, or the output failed. `at` is what
     // link, clock, keeper, shelf and doors show.

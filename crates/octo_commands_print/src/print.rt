@@ -8,6 +8,7 @@ ghost use Rattle.job_desk.specs.Data.{new_desk};
 ghost use Rattle.send_window.specs.Data.{new_sender};
 ghost use Rattle.send_window.specs.declared.session_end.SessionEnd.TheVariants.{NoAnswer};
 ghost use Rattle.printer_link.specs.Link.{RoseBy};
+ghost use Rattle.printer_link.specs.Suits.{SuitsAs};
 ghost use Rattle.octo_session_print.specs.Ends.{IsNew};
 ghost use Rattle.octo_session_print.specs.Waiting.{HasWaited};
 ghost use Rattle.octo_session_print.specs.declared.end.PrintEnd.TheVariants as end;
@@ -74,6 +75,7 @@ fn print_job<L: Link, T: Clock>(
     turns: u64,
 ) -> Report
     requires down { L.up link.old ≡ false }
+    requires suits { SuitsAs false (L.past link.old) (L.kind link.old).oks }
     requires sound { IsSettings settings }
     requires cool { first_hot_of settings.limits job.commands ≡ None }
 
@@ -124,6 +126,7 @@ pub fn print_file<F: Source, L: Link, T: Clock>(
     settings: Option<&str>,
 ) -> Report
     requires down { L.up link.old ≡ false }
+    requires suits { SuitsAs false (L.past link.old) (L.kind link.old).oks }
 
     // The result.
     ensures print { IsFilePrint (L.kind link.old) (F.files files.old)

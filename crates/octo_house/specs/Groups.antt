@@ -3,9 +3,14 @@ use Rattle.std.specs.Prelude.{Bool, true, false}
 use Rattle.octo_asks.specs.declared.request.Request.{Request}
 use Rattle.octo_asks.specs.declared.request.Request.TheVariants as request
 
--- it changes rows, or files
+-- it may hold a file: one that is to be stored, or that was fetched
+abbrev pub has_file : Request → Bool
+has_file (request.PutFile name bytes select print) = true
+has_file (request.Download name) = true
+has_file _ = false
+
+-- it changes rows, or files that are stored
 abbrev pub is_edit : Request → Bool
-is_edit (request.PutFile name bytes select print) = true
 is_edit (request.SelectFile name print) = true
 is_edit (request.DeleteFile name) = true
 is_edit (request.PutUser name key groups active) = true

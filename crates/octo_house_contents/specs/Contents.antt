@@ -3,7 +3,9 @@ use Rattle.std.specs.Prelude.{◌≡◌, List, [], ◌∷◌, ◌++◌, Option, 
 use Rattle.octo_keeper.specs.declared.shelf.ShelfFile.{ShelfFile}
 use Rattle.octo_asks.specs.History.{History}
 use Rattle.octo_asks.specs.declared.entry.Entry.{Entry}
+use Rattle.job_desk.specs.Run.{DeskCall, Run, new_run, run_of}
 use Rattle.octo_house_rules.specs.Legal.{Standing, IsLegal, after_entry}
+use Rattle.octo_house_rules.specs.Scripts.{calls_at}
 
 -- the same standing, while the shelf holds these files
 abbrev pub with_files : List ShelfFile → Standing → Standing
@@ -20,6 +22,15 @@ EachOver Holds (files ∷ contents) (e ∷ es) s = Holds e (with_files files s) 
 abbrev pub after_over : List (List ShelfFile) → History → Standing → Standing
 after_over (files ∷ contents) (e ∷ es) s = after_over contents es (after_entry e (with_files files s))
 after_over _ _ s = s
+
+-- the calls at the desk that a history records, if the shelf held these files before each entry
+abbrev pub calls_over : List (List ShelfFile) → History → Standing → List DeskCall
+calls_over (files ∷ contents) (e ∷ es) s = calls_at e (with_files files s) ++ calls_over contents es (after_entry e (with_files files s))
+calls_over _ _ s = []
+
+-- the run of the desk that it records
+abbrev pub run_over : List (List ShelfFile) → History → Standing → Run
+run_over contents history s = run_of (calls_over contents history s) (new_run s.known.desk)
 
 -- each entry may come, if the shelf held these files before each
 abbrev pub LegalOver : List (List ShelfFile) → History → Standing → Type 0

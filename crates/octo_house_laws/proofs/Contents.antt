@@ -14,7 +14,7 @@ use Rattle.octo_house_rules.specs.Issued.{lines_at, issued_in}
 use Rattle.octo_house_rules.specs.Legal.{Standing, IsLegal, after_entry}
 use Rattle.octo_house_laws.specs.Calls.{IsPermittedEntry, IsEntryOnce}
 use Rattle.octo_house_laws.specs.Contents.{KeepsLawsOver, EveryHistoryKeepsLawsOver, EveryLineOverIsCool}
-use Rattle.octo_house_laws.specs.Limits.{IsCool}
+use Rattle.octo_house_laws.specs.Limits.{IsCool, AreCoolScripts, IssuesCoolLines}
 use Rattle.octo_house_laws.specs.Own.{IsEntryIsolated}
 use Rattle.octo_house_laws.proofs.Calls.{by_entry, once_entry}
 use Rattle.octo_house_laws.proofs.Desk.{Cool}
@@ -41,6 +41,13 @@ cool_over limits (files ∷ contents) (e ∷ es) s l h =
     cool_entry limits e (with_files files s) l.0 h in
     each_append (IsCoolLine limits) (lines_at e) (issued_in es) one.0
     (cool_over limits contents es (after_entry e (with_files files s)) l.1 one.1)
+
+-- of a host with a new desk whose scripts aren't too hot
+pub every_cool_line_over : (scripts : ScriptTexts) (limits : Limits) (poll_ms : ℕ) (contents : List (List ShelfFile)) (history : History) (s : Standing)
+    → s.known.desk ≡ new_desk scripts limits poll_ms → AreCoolScripts limits scripts → LegalOver contents history s → IssuesCoolLines limits history
+every_cool_line_over scripts limits poll_ms contents history s e cool l =
+    All-from_recursion (IsCoolLine limits) (issued_in history)
+    (cool_over limits contents history s l (subst (λ d. Cool limits d) (sym e) (new_cool limits scripts poll_ms cool)))
 
 pub every_line_over : EveryLineOverIsCool
 every_line_over settings contents history s sound e l =

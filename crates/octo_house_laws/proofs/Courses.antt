@@ -3,18 +3,18 @@ use Rattle.std.proofs.Common.{◌≡◌, ◌⊎◌, inl, inr, ℕ, ◌<◌, List
 use Rattle.std.proofs.lemmas.List.{append-nil}
 use Rattle.job_desk.specs.Course.{Course, End, started, still_open, Cancelled, Done, script}
 use Rattle.job_desk.specs.Data.{ScriptTexts, Line}
-use Rattle.job_desk.specs.Run.{Fate, Stopped, of_print}
+use Rattle.job_desk.specs.Run.{Fate, Run, Stopped, of_print}
 use Rattle.job_desk.specs.Story.{IsBegun, Story, never, going, finished, stopped, left, unplugged, broken}
 use Rattle.job_desk.specs.declared.state.Point.TheVariants as point
 use Rattle.octo_asks.specs.History.{History}
 use Rattle.print_queue.specs.declared.ending.Outcome.TheVariants as outcome
 use Rattle.print_queue.specs.declared.row.PrintRow.{PrintRow}
 use Rattle.octo_house_rules.specs.Issued.{trace}
-use Rattle.octo_house_rules.specs.Legal.{Standing, after_all}
+use Rattle.octo_house_rules.specs.Legal.{after_all}
 use Rattle.octo_house_rules.specs.Outcomes.{outcome_by, HasOutcome}
-use Rattle.octo_house_rules.specs.Scripts.{run_in, KeepsScripts}
+use Rattle.octo_house_rules.specs.Scripts.{run_in, HasScripts}
 use Rattle.octo_house_rules.proofs.Histories.{keeps_scripts, keeps_outcomes}
-use Rattle.octo_house_laws.specs.Courses.{BeginsCourse, HasWholeCourse, EveryPrintFollowsACourse, HasCourseIfDone, EveryDoneRecordHasACourse}
+use Rattle.octo_house_laws.specs.Courses.{BeginsCourse, HasWholeCourse, FollowsCourses, EveryPrintFollowsACourse, HasCourseIfDone, EveryDoneRecordHasACourse}
 
 module _ (scripts : ScriptTexts) (print : ℕ) where
   -- what a story says of the beginning of a course
@@ -73,36 +73,36 @@ module _ (scripts : ScriptTexts) (print : ℕ) where
   done_by _ _ _ (unplugged commands lines begun) done = absurd (cc done)
   done_by _ _ _ (broken commands lines begun) done = absurd (cc done)
 
-module _ (scripts : ScriptTexts) (h : History) (s : Standing) (kept : KeepsScripts scripts h s) where
-  story : (print : ℕ) → 0 < print → Story scripts print (of_print print (run_in h s).begun) (trace print h) (of_print print (run_in h s).ends)
-  story print positive = kept.stories print positive
-
-  begins : (print : ℕ) → 0 < print → BeginsCourse scripts h s print
+module _ (scripts : ScriptTexts) (run : Run) (h : History) (kept : HasScripts scripts run h) where
+  begins : (print : ℕ) → 0 < print → BeginsCourse scripts run h print
   begins print positive =
-      let found : Begun scripts print (of_print print (run_in h s).begun) (trace print h) = begun_by scripts print _ _ _ (story print positive) in
+      let found : Begun scripts print (of_print print run.begun) (trace print h) = begun_by scripts print _ _ _ (kept.stories print positive) in
       record { commands = found.0; file = found.1; course = found.2 }
 
-  cancels : (print : ℕ) → 0 < print → of_print print (run_in h s).ends ≡ Stopped ∷ [] → HasWholeCourse Cancelled scripts h s print
+  cancels : (print : ℕ) → 0 < print → of_print print run.ends ≡ Stopped ∷ [] → HasWholeCourse Cancelled scripts run h print
   cancels print positive is =
-      let found : Whole scripts print Cancelled (of_print print (run_in h s).begun) (trace print h) = cancelled_by scripts print _ _ _
-      (story print positive) is in
+      let found : Whole scripts print Cancelled (of_print print run.begun) (trace print h) = cancelled_by scripts print _ _ _
+      (kept.stories print positive) is in
       record { commands = found.0; file = found.1; course = found.2 }
 
-  completes : (before : ℕ) (row : PrintRow) → HasOutcome before (run_in h s).ends row → HasCourseIfDone scripts before h s row
+  completes : (before : ℕ) (row : PrintRow) → HasOutcome before run.ends row → HasCourseIfDone scripts before run h row
   completes before row told = λ above done. (
-      let found : Whole scripts row.number Done (of_print row.number (run_in h s).begun) (trace row.number h) =
-      done_by scripts row.number _ _ _ (story row.number (omega arith)) (sym (told above) ∙ done) in
+      let found : Whole scripts row.number Done (of_print row.number run.begun) (trace row.number h) =
+      done_by scripts row.number _ _ _ (kept.stories row.number (omega arith)) (sym (told above) ∙ done) in
       record { commands = found.0; file = found.1; course = found.2 }
       )
 
+  -- the courses of all prints, and of the records that say Done
+  pub follows : FollowsCourses scripts run h
+  follows = record { each = begins; cancelled = cancels }
+
+  pub done_records : (before : ℕ) (rows : List PrintRow) → All (HasOutcome before run.ends) rows → All (HasCourseIfDone scripts before run h) rows
+  done_records before rows outcomes = λ i d within. completes before (get_or rows i d) (outcomes i d within)
+
 pub every_print : EveryPrintFollowsACourse
-every_print scripts limits poll_ms h s e l =
-    let kept : KeepsScripts scripts h s = keeps_scripts scripts limits poll_ms h s e l in
-    record { each = begins scripts h s kept; cancelled = cancels scripts h s kept }
+every_print scripts limits poll_ms h s e l = follows scripts (run_in h s) h (keeps_scripts scripts limits poll_ms h s e l)
 
 pub every_done_record : EveryDoneRecordHasACourse
 every_done_record scripts limits poll_ms h s e old l =
-    let before : ℕ = length s.known.prints in
-    let kept : KeepsScripts scripts h s = keeps_scripts scripts limits poll_ms h s e l in
-    let outcomes : All (HasOutcome before (run_in h s).ends) (after_all h s).known.prints = keeps_outcomes scripts limits poll_ms h s e old l in
-    λ i d within. completes scripts h s kept before (get_or (after_all h s).known.prints i d) (outcomes i d within)
+    done_records scripts (run_in h s) h (keeps_scripts scripts limits poll_ms h s e l) (length s.known.prints) (after_all h s).known.prints
+    (keeps_outcomes scripts limits poll_ms h s e old l)

@@ -6,5 +6,6 @@ pub mod Desk
 pub mod Hosts
 pub mod Limits
 pub mod Own
+pub mod Prints
 pub mod Pulls
 pub mod Texts

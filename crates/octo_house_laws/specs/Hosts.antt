@@ -21,9 +21,9 @@ use Rattle.octo_house_laws.specs.Own.{AreIsolated}
 pub record KeepsLaws (scripts : ScriptTexts) (limits : Limits) (history : History) (s : Standing) : Type 0 where
   -- prints: their scripts and commands, their courses, and what their records say
   pub scripts_kept : KeepsScripts scripts history s
-  pub courses : FollowsCourses scripts history s
+  pub courses : FollowsCourses scripts (run_in history s) history
   pub outcomes : All (HasOutcome (length s.known.prints) (run_in history s).ends) (after_all history s).known.prints
-  pub done : All (HasCourseIfDone scripts (length s.known.prints) history s) (after_all history s).known.prints
+  pub done : All (HasCourseIfDone scripts (length s.known.prints) (run_in history s) history) (after_all history s).known.prints
   -- no issued line is too hot if no script's is
   pub cool : AreCoolScripts limits scripts → IssuesCoolLines limits history
   -- calls: who was denied, and puts that were repeated

@@ -1,6 +1,6 @@
 //! The laws.
 ghost use Rattle.octo_house_laws.specs.Calls.{EveryCallIsPermitted, EveryPutIsMadeOnce};
-ghost use Rattle.octo_house_laws.specs.Contents.{EveryHistoryKeepsLawsOver, EveryLineOverIsCool};
+ghost use Rattle.octo_house_laws.specs.Contents.{EveryHistoryKeepsLawsOver, EveryHistoryKeepsPrintsOver, EveryLineOverIsCool};
 ghost use Rattle.octo_house_laws.specs.Courses.{EveryDoneRecordHasACourse, EveryPrintFollowsACourse};
 ghost use Rattle.octo_house_laws.specs.Hosts.{EveryHostKeepsTheLaws};
 ghost use Rattle.octo_house_laws.specs.Limits.{EveryLineIsCool, EveryLineOfSettingsIsCool};
@@ -57,6 +57,12 @@ pub fn every_caller_is_isolated()
 /// what the caller's own rows determine.
 pub fn every_history_keeps_laws_over_contents()
     ensures { EveryHistoryKeepsLawsOver }
+{}
+
+/// Of a host that begins with a new desk, such a history follows the scripts and courses of its prints, and the records of prints
+/// say what they came to.
+pub fn every_history_keeps_prints_over_contents()
+    ensures { EveryHistoryKeepsPrintsOver }
 {}
 
 /// So no line asks a heater for more than the limits of the settings with which the host began.

@@ -2,7 +2,8 @@
 use Rattle.std.proofs.Common.{◌≡◌, ℕ, ◌≤◌, Bool, true, false, List, [], ◌∷◌, ◌++◌, length, map, All, Option, None, Some, refl, sym, ◌∙◌, ap, subst, arith}
 use Rattle.std.proofs.lemmas.List.{length-map}
 use Rattle.std.proofs.lemmas.List.Elements.{All-nil, All-cons, All-head, All-tail}
-use Rattle.job_desk.specs.Data.{Data, Line, new_desk}
+use Rattle.temp_rules.specs.declared.limits.Limits.{Limits}
+use Rattle.job_desk.specs.Data.{ScriptTexts, Data, Line, new_desk}
 use Rattle.job_desk.specs.Note.{note_step, first_fact}
 use Rattle.job_desk.specs.Run.{Fate, fate_of, DeskCall, Pull, Note, new_run, run_of, print_lines, pulled_of, of_print, MayCall}
 use Rattle.job_desk.specs.Story.{Story, HasStories}
@@ -28,19 +29,19 @@ use Rattle.octo_house_rules.specs.Issued.{issued_in, lines_at, trace}
 use Rattle.octo_house_rules.specs.Legal.{Standing, after_entry, after_all, IsLegal, Legal}
 use Rattle.octo_house_rules.specs.Outcomes.{HasOutcome, EveryHistoryKeepsOutcomes}
 use Rattle.octo_house_rules.specs.Noted.{calls_of, known_after_call, known_after_calls, last_call, known_after_note, lines_in}
-use Rattle.octo_house_rules.specs.Scripts.{calls_at, calls_of_all, run_in, EveryHistoryKeepsScripts}
+use Rattle.octo_house_rules.specs.Scripts.{calls_at, calls_of_all, HasScripts, EveryHistoryKeepsScripts}
 use Rattle.octo_house_rules.proofs.Asked.{asks_play}
 use Rattle.octo_house_rules.proofs.Fates.{noted_by, ends_after, ends_all, ends_append, ends_run, Each, Tells, tells_end, Named, named_note}
 use Rattle.octo_house_rules.proofs.Played.{IsNumbered, Led, led}
 use Rattle.octo_house_rules.proofs.Runs.{MayAll, may_run, may_append, pulled_all, of_pulled, lines_append}
 
 -- what an entry makes of the desk, the lines that it pulls, and the numbers of prints
-record Joined (calls : List DeskCall) (lines : List Line) (k l : Known) : Type 0 where
-  desk : l.desk ≡ desk_after_all calls k.desk
-  pulls : lines_pulled calls k.desk ≡ lines
-  may : MayAll calls k.desk
-  numbered : IsNumbered l
-  told : (before : ℕ) (ends : List (ℕ × Fate)) → Tells before ends k.prints → Tells before (ends_all calls k.desk ends) l.prints
+pub record Joined (calls : List DeskCall) (lines : List Line) (k l : Known) : Type 0 where
+  pub desk : l.desk ≡ desk_after_all calls k.desk
+  pub pulls : lines_pulled calls k.desk ≡ lines
+  pub may : MayAll calls k.desk
+  pub numbered : IsNumbered l
+  pub told : (before : ℕ) (ends : List (ℕ × Fate)) → Tells before ends k.prints → Tells before (ends_all calls k.desk ends) l.prints
 
 joined_call : (fault : Bool) (v : Verdict) (k : Known) (x : Answer) → is_fault x ≡ fault → IsNumbered k → Led v k x → Joined (calls_after v x) [] k (after v k x)
 joined_call true v k x e n h = rw e (record { desk = refl; pulls = refl; may = tt; numbered = n; told = λ before ends t. t })
@@ -120,7 +121,7 @@ joined_note said k n h = record {
   told = called_all_told (calls_of said) k (noting said) n;
 }
 
-joined_entry : (e : Entry) (s : Standing) → IsLegal e s → IsNumbered s.known → Joined (calls_at e s) (lines_at e) s.known (after_entry e s).known
+pub joined_entry : (e : Entry) (s : Standing) → IsLegal e s → IsNumbered s.known → Joined (calls_at e s) (lines_at e) s.known (after_entry e s).known
 joined_entry (entry.Call worker ask moment x) s l n =
     joined_call (is_fault x) (verdict ask s.files s.known) s.known x refl n (led (verdict ask s.files s.known) s.known x n (asks_play (needed ask.request) ask.key ask.request s.files s.known n))
 joined_entry (entry.Note said) s l n = joined_note said s.known n l.1.lines
@@ -138,19 +139,28 @@ joined_all (e ∷ es) s l n =
           ∙ ap (λ lines. lines_at e ++ lines) rest.1,
     )
 
-pub keeps_scripts : EveryHistoryKeepsScripts
-keeps_scripts scripts limits poll_ms h s e l =
-    let n : IsNumbered s.known = subst (λ (d : Data). d.greatest ≤ length s.known.prints) (sym e) (omega arith) in
-    let j : MayAll (calls_of_all h s) s.known.desk × (lines_pulled (calls_of_all h s) s.known.desk ≡ issued_in h) = joined_all h s l n in
-    let t : HasStories scripts (run_in h s) =
-    subst (λ d. HasStories scripts (run_of (calls_of_all h s) (new_run d))) (sym e) (every_run scripts limits poll_ms (calls_of_all h s) (may_run (calls_of_all h s) (new_run (new_desk scripts limits poll_ms)) (subst (λ d. MayAll (calls_of_all h s) d) e j.0))) in
+-- calls that may be made at a new desk, and that pull the lines of a history
+pub scripts_of : (scripts : ScriptTexts) (limits : Limits) (poll_ms : ℕ) (calls : List DeskCall) (d : Data) (h : History) → d ≡ new_desk scripts limits poll_ms
+    → MayAll calls d → lines_pulled calls d ≡ issued_in h → HasScripts scripts (run_of calls (new_run d)) h
+scripts_of scripts limits poll_ms calls d h e may pulls =
+    let t : HasStories scripts (run_of calls (new_run d)) =
+    subst (λ x. HasStories scripts (run_of calls (new_run x))) (sym e) (every_run scripts limits poll_ms calls (may_run calls (new_run (new_desk scripts limits poll_ms)) (subst (λ x. MayAll calls x) e may))) in
     record {
       stories = λ print positive. (
-          let same : pulled_of print (run_in h s).pulled ≡ trace print h = of_pulled print (run_in h s).pulled ∙ ap (λ lines. print_lines print lines) (pulled_all (calls_of_all h s) (new_run s.known.desk) ∙ j.1) in
-          subst (λ lines. Story scripts print (of_print print (run_in h s).begun) lines (of_print print (run_in h s).ends)) same (t.stories print positive)
+          let same : pulled_of print (run_of calls (new_run d)).pulled ≡ trace print h = of_pulled print (run_of calls (new_run d)).pulled ∙ ap (λ lines. print_lines print lines) (pulled_all calls (new_run d) ∙ pulls) in
+          subst (λ lines. Story scripts print (of_print print (run_of calls (new_run d)).begun) lines (of_print print (run_of calls (new_run d)).ends)) same (t.stories print positive)
           );
       only_printing = t.only_printing;
     }
+
+-- a new desk has no number above the count of records
+pub new_numbered : (scripts : ScriptTexts) (limits : Limits) (poll_ms : ℕ) (k : Known) → k.desk ≡ new_desk scripts limits poll_ms → IsNumbered k
+new_numbered scripts limits poll_ms k e = subst (λ (d : Data). d.greatest ≤ length k.prints) (sym e) (omega arith)
+
+pub keeps_scripts : EveryHistoryKeepsScripts
+keeps_scripts scripts limits poll_ms h s e l =
+    let j : MayAll (calls_of_all h s) s.known.desk × (lines_pulled (calls_of_all h s) s.known.desk ≡ issued_in h) = joined_all h s l (new_numbered scripts limits poll_ms s.known e) in
+    scripts_of scripts limits poll_ms (calls_of_all h s) s.known.desk h e j.0 j.1
 
 told_all : (h : History) (s : Standing) → Legal h s → IsNumbered s.known → (before : ℕ) (ends : List (ℕ × Fate)) → Tells before ends s.known.prints → Tells before (ends_all (calls_of_all h s) s.known.desk ends) (after_all h s).known.prints
 told_all [] s l n before ends t = t
@@ -173,12 +183,19 @@ of_each : {X : Type 0} (P : X → Type 0) (xs : List X) → Each P xs → All P 
 of_each P [] h = All-nil P
 of_each P (x ∷ xs) h = All-cons P x xs h.0 (of_each P xs h.1)
 
+-- before any entry
+pub none_told : (rows : List PrintRow) → All (λ (row : PrintRow). row.number ≤ length rows) rows → Tells (length rows) [] rows
+none_told rows old =
+    record { outcomes = none_began (length rows) rows (each_of (λ (row : PrintRow). row.number ≤ length rows) rows old); few = tt }
+
+-- what the ends of calls say of records
+pub outcomes_of : (before : ℕ) (calls : List DeskCall) (d : Data) (rows : List PrintRow) → Tells before (ends_all calls d []) rows
+    → All (HasOutcome before (run_of calls (new_run d)).ends) rows
+outcomes_of before calls d rows t =
+    of_each (HasOutcome before (run_of calls (new_run d)).ends) rows
+    (subst (λ ends. Each (HasOutcome before ends) rows) (sym (ends_run calls (new_run d))) t.outcomes)
+
 pub keeps_outcomes : EveryHistoryKeepsOutcomes
 keeps_outcomes scripts limits poll_ms h s e old l =
-    let n : IsNumbered s.known = subst (λ (d : Data). d.greatest ≤ length s.known.prints) (sym e) (omega arith) in
-    let first : Each (λ (row : PrintRow). row.number ≤ length s.known.prints) s.known.prints =
-    each_of (λ (row : PrintRow). row.number ≤ length s.known.prints) s.known.prints old in
-    let t : Tells (length s.known.prints) (ends_all (calls_of_all h s) s.known.desk []) (after_all h s).known.prints =
-    told_all h s l n (length s.known.prints) [] (record { outcomes = none_began (length s.known.prints) s.known.prints first; few = tt }) in
-    of_each (HasOutcome (length s.known.prints) (run_in h s).ends) (after_all h s).known.prints
-    (subst (λ ends. Each (HasOutcome (length s.known.prints) ends) (after_all h s).known.prints) (sym (ends_run (calls_of_all h s) (new_run s.known.desk))) t.outcomes)
+    outcomes_of (length s.known.prints) (calls_of_all h s) s.known.desk (after_all h s).known.prints
+    (told_all h s l (new_numbered scripts limits poll_ms s.known e) (length s.known.prints) [] (none_told s.known.prints old))

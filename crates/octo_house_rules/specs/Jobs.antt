@@ -15,7 +15,7 @@ jobs_from print index (text ∷ texts) = job_line print index text ∷ jobs_from
 
 -- how many lines the printer executed in a session of a history that began when the link's history was so long
 abbrev pub executed_in : LinkKind → List WorldEvent → List WorldEvent → ℕ → ℕ
-executed_in kind front past session = length (executed kind.slots kind.numbered past (opens front + session))
+executed_in kind front past session = length (executed kind.slots kind.oks past (opens front + session))
 
 -- the lines of a session that the printer executed: by Tied they are the first ones
 abbrev pub lines_executed : LinkKind → List WorldEvent → List WorldEvent → ℕ → History → List Line

@@ -28,12 +28,15 @@ calls_of_all (e ∷ es) s = calls_at e s ++ calls_of_all es (after_entry e s)
 abbrev pub run_in : History → Standing → Run
 run_in history s = run_of (calls_of_all history s) (new_run s.known.desk)
 
--- the issued lines of each print begin a course, and are a whole one if it is done or was cancelled; no file command is
--- issued but in the state Printing
-pub record KeepsScripts (scripts : ScriptTexts) (history : History) (s : Standing) : Type 0 where
-  pub stories : (print : ℕ) → 0 < print
-      → Story scripts print (of_print print (run_in history s).begun) (trace print history) (of_print print (run_in history s).ends)
-  pub only_printing : All (λ (one : Pulled). IsPulledWell one.line.tag one.state) (run_in history s).pulled
+-- by a run of the desk: the issued lines of each print begin a course, and are a whole one if it is done or was cancelled; no
+-- file command is issued but in the state Printing
+pub record HasScripts (scripts : ScriptTexts) (run : Run) (history : History) : Type 0 where
+  pub stories : (print : ℕ) → 0 < print → Story scripts print (of_print print run.begun) (trace print history) (of_print print run.ends)
+  pub only_printing : All (λ (one : Pulled). IsPulledWell one.line.tag one.state) run.pulled
+
+-- by the run that the history records
+abbrev pub KeepsScripts : ScriptTexts → History → Standing → Type 0
+KeepsScripts scripts history s = HasScripts scripts (run_in history s) history
 
 -- the law: so does every legal history of a host that begins with a new desk
 abbrev pub EveryHistoryKeepsScripts : Type 0

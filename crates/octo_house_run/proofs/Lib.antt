@@ -1,6 +1,7 @@
 pub mod Asking
 pub mod Connecting
 pub mod Contents
+pub mod Laws
 pub mod Noting
 pub mod Owning
 pub mod Printing

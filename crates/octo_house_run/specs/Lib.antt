@@ -1,5 +1,6 @@
 -- The words of a host's run over a counter.
 pub mod Asks
+pub mod Laws
 pub mod Own
 pub mod Reconnecting
 pub mod Runs

@@ -9,9 +9,11 @@ ghost use Rattle.octo_house_rules.specs.Temps.{NotesTemps};
 ghost use Rattle.octo_house_rules.specs.Tied.{TiesLines};
 ghost use Rattle.octo_house_tables.specs.Kept.{KeepsRows};
 ghost use Rattle.octo_house.specs.State.{IsListed, session_of, tables_of};
+ghost use Rattle.octo_house_run.specs.Laws.{RunKeepsLaws};
 ghost use Rattle.octo_house_run.specs.Own.{AsksOfWorkers, ConnectsItself};
 ghost use Rattle.octo_house_run.specs.Runs.{HasRun, HasRunOver, RunKeepsPrints, IsFresh, IsOver, ArePassed, begins};
 ghost use Rattle.octo_house_run.specs.Tallies.{is_over};
+ghost use Rattle.printer_link.specs.Suits.{SuitsAs};
 
 use crate::answering::answer_next;
 use crate::link_turn::take_turn;
@@ -49,6 +51,7 @@ pub fn run<R: Wait, C: Counter, L: Link, T: Clock, K: Keeper, S: Shelf>(
 ) -> u64
     requires fresh { IsFresh (session_of house.old) }
     requires down { L.up link.old ≡ false }
+    requires suits { SuitsAs false (L.past link.old) (L.kind link.old).oks }
     requires answered { C.given counter.old ≡ None }
     requires open { C.closed counter.old ≡ false }
 
@@ -62,6 +65,11 @@ pub fn run<R: Wait, C: Counter, L: Link, T: Clock, K: Keeper, S: Shelf>(
         → IsListed (S.files shelf.new) house.new }
     ensures kept { KeepsRows (K.tables keeper.old) (K.tables keeper.new)
         (tables_of house.old) (tables_of house.new) }
+
+    // So it keeps the laws: who was denied, what callers learned of each other, puts that were repeated, and the courses,
+    // records and temperatures of prints.
+    ensures laws { RunKeepsLaws (C.past counter.old) (C.past counter.new)
+        (S.files shelf.old) house.old }
 
     // What the history says of the clock and of the link.
     ensures moments { ArePassed (T.moment clock.old) (T.moment clock.new)

@@ -75,6 +75,7 @@ failing_received w v (event.Opened last ∷ []) may = absurd may
 failing_received w v (event.Send bytes ∷ []) may = refl
 failing_received w v (event.Arrive ∷ []) may = absurd may
 failing_received w v (event.Lose at ∷ []) may = absurd may
+failing_received w v (event.LoseReply at ∷ []) may = absurd may
 failing_received w v (event.Garble at bytes ∷ []) may = absurd may
 failing_received w v (event.Run ∷ []) may = absurd may
 failing_received w v (event.Restart ∷ []) may = absurd may
@@ -252,7 +253,7 @@ temps_then kind link mid link' es fs first second =
     ∙ ap temps_reported (sym (received_from-append (world_in kind past) added more)))))
   where
     in_append : (past added : List WorldEvent) → world_in kind (past ++ added) ≡ world_from (world_in kind past) added
-    in_append past added = world_of-append kind.slots kind.numbered past added
+    in_append past added = world_of-append kind.slots kind.oks past added
 
 -- nothing was noted, and nothing received
 pub temps_none : (kind : LinkKind) (link : Option (List WorldEvent)) (h : History) → temps_noted h ≡ [] → NotesTemps kind link link h

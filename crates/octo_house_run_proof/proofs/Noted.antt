@@ -60,13 +60,9 @@ lines_legal moment acked old new ending note n =
     ∙ append-nil (map line_of note.issued.items)
 
 -- the number of acknowledged lines falls only as a session begins, and is at most the number of issued ones
-pub acked_well : (s : Standing) (known : Known) (x : SessionData) (files : List ShelfFile) (moment : ℕ) (found : LinkFact) (acked : ℕ)
-    → StandsAt s known x files moment false → IsSession x
-    → (found ≡ fact.Opened → acked ≡ 0) → (found ≡ fact.Opened) ⊎ (x.sender.acked ≤ acked) → acked ≤ x.sender.issued
-    → IsAckedWell found acked s.known.desk
-acked_well s known x files moment found acked at joined none kept most =
-    let Well : Data → Type 0 = λ d. IsAckedWell found acked d in
-    subst Well (sym (desk_is s known x files moment at)) (by found none kept)
+pub acked_at_desk : (x : SessionData) (found : LinkFact) (acked : ℕ) → IsSession x → (found ≡ fact.Opened → acked ≡ 0)
+    → (found ≡ fact.Opened) ⊎ (x.sender.acked ≤ acked) → acked ≤ x.sender.issued → IsAckedWell found acked x.desk
+acked_at_desk x found acked joined none kept most = by found none kept
   where
     more : (f : LinkFact) → (f ≡ fact.Opened) ⊎ (x.sender.acked ≤ acked) → (f ≡ fact.Opened → ⊥) → (x.desk.acked ≤ acked) × (acked ≤ x.desk.issued)
     more f (inl opened) unopened = absurd (unopened opened)
@@ -80,3 +76,12 @@ acked_well s known x files moment found acked at joined none kept most =
     by fact.NoPort zero k = more fact.NoPort k (λ e. cc e)
     by fact.Failed zero k = more fact.Failed k (λ e. cc e)
     by (fact.Ended end) zero k = more (fact.Ended end) k (λ e. cc e)
+
+-- the same of the desk that a history led to
+pub acked_well : (s : Standing) (known : Known) (x : SessionData) (files : List ShelfFile) (moment : ℕ) (found : LinkFact) (acked : ℕ)
+    → StandsAt s known x files moment false → IsSession x
+    → (found ≡ fact.Opened → acked ≡ 0) → (found ≡ fact.Opened) ⊎ (x.sender.acked ≤ acked) → acked ≤ x.sender.issued
+    → IsAckedWell found acked s.known.desk
+acked_well s known x files moment found acked at joined none kept most =
+    let Well : Data → Type 0 = λ d. IsAckedWell found acked d in
+    subst Well (sym (desk_is s known x files moment at)) (acked_at_desk x found acked joined none kept most)

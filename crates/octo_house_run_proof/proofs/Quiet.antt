@@ -75,7 +75,7 @@ known_noted moment acked note known q =
     ∙ ap (λ f. known_by moment acked [] None f known) q.its_fact
 
 -- a desk that a turn without a note left in another state took a quiet note
-talked : (d : Doing) (moment : ℕ) (old new : Data) (ending : Option Ending) → IsQuietTurn d moment old ending new → (new.state ≡ old.state → ⊥)
+pub talked : (d : Doing) (moment : ℕ) (old new : Data) (ending : Option Ending) → IsQuietTurn d moment old ending new → (new.state ≡ old.state → ⊥)
     → (d ≡ UsingLink) × (ending ≡ (note_step old.acked fact.Quiet moment old).0) × (new ≡ (note_step old.acked fact.Quiet moment old).1)
 talked Dialling moment old new ending quiet moved = absurd quiet
 talked HangingUp moment old new ending quiet moved = absurd quiet
@@ -83,7 +83,7 @@ talked UsingLink moment old new ending quiet moved = (refl, quiet.0, quiet.1)
 talked Resting moment old new ending quiet moved = absurd (moved (ap (λ (d : Data). d.state) quiet.1))
 
 -- one that it left in its state is as it was
-kept_still : (d : Doing) (moment : ℕ) (old new : Data) (ending : Option Ending) → IsQuietTurn d moment old ending new → new.state ≡ old.state
+pub kept_still : (d : Doing) (moment : ℕ) (old new : Data) (ending : Option Ending) → IsQuietTurn d moment old ending new → new.state ≡ old.state
     → (ending ≡ None) × (new ≡ old)
 kept_still Dialling moment old new ending quiet same = absurd quiet
 kept_still HangingUp moment old new ending quiet same = absurd quiet

@@ -10,7 +10,7 @@ use crate::refusals::answer_of_shelf_fault;
 use byte_text::Name;
 use gcode_lines::{FileFault, Job, take_commands};
 use octo_asks::Answer;
-use octo_keeper::Shelf;
+use octo_keeper::{Fetched, Shelf};
 use octo_outside::Blob;
 use std::alloc::Global;
 
@@ -24,8 +24,14 @@ pub fn bad_file(fault: FileFault) -> Answer
     }
 }
 
-/// The bytes of a file that the shelf holds, or why there are none.
-pub fn read_bytes<S: Shelf>(alloc: Global, shelf: &mut S, name: &Name) -> Result<Blob, Answer>
+/// The bytes of a file that the shelf holds, or why there are none. If a stager has read them, what it fetched is given to the
+/// shelf.
+pub fn read_bytes<S: Shelf>(
+    alloc: Global,
+    shelf: &mut S,
+    name: &Name,
+    fetched: Option<Fetched>,
+) -> Result<Blob, Answer>
     ensures read { (files : List ShelfFile) → S.files shelf.old ≡ Some files
         → IsReadAs (bytes_at name.now files) result }
     ensures some { IsReadOfSome (bytes_at name.now) result }
@@ -36,7 +42,7 @@ pub fn read_bytes<S: Shelf>(alloc: Global, shelf: &mut S, name: &Name) -> Result
         (S.faults shelf.old) (S.faults shelf.new) }
     ensures keeper { is_keepers_fault result ≡ false }
 {
-    match shelf.get(alloc, name) {
+    match shelf.get(alloc, name, fetched) {
         Ok(Some(bytes)) => Ok(bytes),
         Ok(None) => Err(Answer::NoFile),
         Err(fault) => Err(answer_of_shelf_fault(fault)),
@@ -75,7 +81,7 @@ pub fn read_job<S: Shelf>(alloc: Global, shelf: &mut S, name: &Name) -> Result<J
         (S.faults shelf.old) (S.faults shelf.new) }
     ensures keeper { is_keepers_fault result ≡ false }
 {
-    let bytes = read_bytes(alloc, shelf, name)?;
+    let bytes = read_bytes(alloc, shelf, name, None)?;
     match take_commands(alloc, bytes) {
         Ok(job) => Ok(job),
         Err(fault) => Err(bad_file(fault)),

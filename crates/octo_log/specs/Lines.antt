@@ -1,5 +1,5 @@
 -- The line of each event of a host's log.
-use Rattle.std.specs.Prelude.{ℕ, ◌-◌, ◌/◌, ◌==◌, ◌||◌, ◌&&◌, Bool, true, false, nat_lt, if◌then◌else◌, List, [], ◌∷◌, ◌++◌, map, take, codes, decimal, Option, Some, None, Result, Ok, Err}
+use Rattle.std.specs.Prelude.{ℕ, ◌-◌, ◌/◌, ◌==◌, ◌||◌, Bool, true, false, nat_lt, if◌then◌else◌, List, [], ◌∷◌, ◌++◌, map, codes, decimal, Option, Some, None, Result, Ok, Err}
 use Rattle.print_queue.specs.declared.ending.Ending.{Ending}
 use Rattle.print_queue.specs.declared.ending.Outcome.{Outcome}
 use Rattle.print_queue.specs.declared.ending.Outcome.TheVariants as outcome
@@ -7,14 +7,6 @@ use Rattle.print_queue.specs.declared.row.PrintRow.{PrintRow}
 use Rattle.octo_keeper.specs.declared.keeper.KeeperFault.{KeeperFault}
 use Rattle.octo_keeper.specs.declared.tables.Change.{Change}
 use Rattle.octo_keeper.specs.declared.tables.Change.TheVariants as change
-use Rattle.marlin_reply.specs.Kind.{kind_of}
-use Rattle.marlin_reply.specs.Pieces.{begins}
-use Rattle.marlin_reply.specs.declared.reply.Reply.{Reply}
-use Rattle.marlin_reply.specs.declared.reply.Reply.TheVariants as reply
-use Rattle.printer_link.specs.declared.link.Heard.{Heard}
-use Rattle.printer_link.specs.declared.link.Heard.TheVariants as heard
-use Rattle.printer_link.specs.declared.link.LinkFault.{LinkFault}
-use Rattle.printer_link.specs.declared.link.LinkFault.TheVariants.{NoPort, Failed}
 
 -- a byte as a log shows it: a control byte is a question mark
 abbrev pub shown_byte : ℕ → ℕ
@@ -23,95 +15,6 @@ shown_byte byte = if nat_lt byte 32 || byte == 127 then 63 else byte
 -- these words as one line, with its line feed
 abbrev pub line_of : List ℕ → List ℕ
 line_of words = map shown_byte words ++ 10 ∷ []
-
--- a name that may be long
-abbrev pub short : List ℕ → List ℕ
-short name = take 100 name
-
--- the words of a call that made a link to a port, or didn't
-abbrev pub dial_words : List ℕ → Result (Unit {0}) LinkFault → List ℕ
-dial_words port (Ok done) = codes "printer: connected to " ++ short port
-dial_words port (Err NoPort) = codes "printer: no port " ++ short port
-dial_words port (Err Failed) = codes "printer: no link to " ++ short port
-
--- whether a call found that there is no link to a listed port
-abbrev pub has_no_link : Result (Unit {0}) LinkFault → Bool
-has_no_link (Err Failed) = true
-has_no_link _ = false
-
--- the line of such a call: of calls in a row that all found no link only the first has one
-abbrev pub dial_line : Bool → List ℕ → Result (Unit {0}) LinkFault → List ℕ
-dial_line had_no_link port made = if had_no_link && has_no_link made then [] else line_of (dial_words port made)
-
--- a link that failed
-abbrev pub loss_words : List ℕ
-loss_words = codes "printer: the link failed"
-
--- the first `ok` since the link was made
-abbrev pub ready_words : List ℕ
-ready_words = codes "printer: ready"
-
--- a printer that has restarted while a link was in use
-abbrev pub restart_words : List ℕ
-restart_words = codes "printer: it has restarted"
-
--- whether an error only asks for a line again
-abbrev pub asks_again : List ℕ → Bool
-asks_again text =
-    begins text (codes "Error:checksum mismatch") || (begins text (codes "Error:Line Number is not")
-    || (begins text (codes "Error:No Checksum") || begins text (codes "Error:No Line Number")))
-
--- another error that the printer reports
-abbrev pub said_words : List ℕ → List ℕ
-said_words text = codes "printer: " ++ short text
-
--- the line of an `ok`
-abbrev pub ready_line : Bool → List ℕ
-ready_line ready = if ready then [] else line_of ready_words
-
--- the line of a `start`: before the first `ok` it belongs to the making of a link
-abbrev pub restart_line : Bool → List ℕ
-restart_line ready = if ready then line_of restart_words else []
-
--- the line of an error
-abbrev pub error_line : List ℕ → List ℕ
-error_line text = if asks_again text then [] else line_of (said_words text)
-
--- the line of a reply, by what kind of reply it is
-abbrev pub reply_line : Bool → List ℕ → Reply → List ℕ
-reply_line ready text (reply.Ok number planner block temps) = ready_line ready
-reply_line ready text reply.Start = restart_line ready
-reply_line ready text reply.Error = error_line text
-reply_line ready text _ = []
-
--- whether an `ok` has come
-abbrev pub ready_after : Bool → Reply → Bool
-ready_after ready (reply.Ok number planner block temps) = true
-ready_after ready _ = ready
-
--- the line of a call that receives
-abbrev pub recv_line : Bool → List ℕ → Result Heard LinkFault → List ℕ
-recv_line ready text (Ok heard.Line) = reply_line ready text (kind_of text)
-recv_line ready text (Ok heard.Nothing) = []
-recv_line ready text (Err fault) = line_of loss_words
-
--- whether an `ok` has come, after such a call
-abbrev pub recv_ready : Bool → List ℕ → Result Heard LinkFault → Bool
-recv_ready ready text (Ok heard.Line) = ready_after ready (kind_of text)
-recv_ready ready text (Ok heard.Nothing) = ready
-recv_ready ready text (Err fault) = ready
-
--- a link that was closed
-abbrev pub hang_up_words : List ℕ
-hang_up_words = codes "printer: disconnected"
-
--- the line of a call that failed
-abbrev pub loss_if : Bool → List ℕ
-loss_if failed = if failed then line_of loss_words else []
-
--- the line of a link that is closed, if it was made
-abbrev pub hang_up_line : Bool → List ℕ
-hang_up_line was_up = if was_up then line_of hang_up_words else []
 
 abbrev pub outcome_words : Outcome → List ℕ
 outcome_words outcome.Active = codes "active"

@@ -1,6 +1,6 @@
 //! The log of a host: a line for each event, in plain text, for the people who run it.
 //!
-//! A link, a keeper, a shelf and doors are wrapped: each call is the wrapped one's, and the log gets what came of it. A log that
+//! A keeper, a shelf and doors are wrapped: each call is the wrapped one's, and the log gets what came of it. A log that
 //! fails loses the rest of a line; nothing else changes by it.
 #![tactic(auto)]
 
@@ -8,7 +8,6 @@ mod conn;
 mod door;
 mod keeper;
 mod line;
-mod link;
 mod shelf;
 mod words;
 
@@ -16,6 +15,5 @@ pub use conn::LoggedConn;
 pub use door::LoggedDoor;
 pub use keeper::LoggedKeeper;
 pub use line::{MOST_LOG_BYTES, log_line};
-pub use link::LoggedLink;
 pub use shelf::LoggedShelf;
 pub use words::{log_serving, log_stopped};

@@ -4,9 +4,9 @@ ghost use Rattle.std.specs.Prelude.{◌≡◌};
 use crate::line::log_line;
 use crate::words::file_words;
 use byte_text::Name;
-use octo_keeper::{FileList, Shelf, ShelfFault};
+use octo_keeper::{Fetched, FileList, Shelf, ShelfFault};
 use octo_outside::{Blob, Sink};
-use std::alloc::Global;
+use std::alloc::{AllocError, Global};
 
 /// A shelf with a log: a line says that a file was stored or deleted, and that a call failed.
 #[derive(Drop)]
@@ -39,6 +39,8 @@ impl<S: Shelf + Drop, G: Sink + Drop> Shelf for LoggedShelf<S, G> {
     ghost use Rattle.octo_log.specs.Lines.{line_of, list_line, get_line, file_words, put_words, remove_words};
     ghost use Rattle.octo_log.specs.Logged.{Logs};
 
+    type Stager = S::Stager;
+
     ghost files = { λ l. S.files l.shelf };
 
     ghost faults = { λ l. S.faults l.shelf };
@@ -63,7 +65,12 @@ impl<S: Shelf + Drop, G: Sink + Drop> Shelf for LoggedShelf<S, G> {
         listed
     }
 
-    fn get(&mut self, alloc: Global, name: &Name) -> Result<Option<Blob>, ShelfFault>
+    fn get(
+        &mut self,
+        alloc: Global,
+        name: &Name,
+        fetched: Option<Fetched>,
+    ) -> Result<Option<Blob>, ShelfFault>
         ensures ok { IfOk result (λ bytes. IfSome (S.files self.old.shelf)
             (λ held. bytes ≡ bytes_of name.now held)) }
         ensures stays { S.files self.new.shelf ≡ S.files self.old.shelf }
@@ -76,7 +83,7 @@ impl<S: Shelf + Drop, G: Sink + Drop> Shelf for LoggedShelf<S, G> {
             (G.written self.old.log) (G.written self.new.log)
             (G.faults self.old.log) (G.faults self.new.log) }
     {
-        let got = self.shelf.get(alloc, name);
+        let got = self.shelf.get(alloc, name, fetched);
         if got.is_err() {
             log_line(
                 &mut self.log,
@@ -109,7 +116,19 @@ impl<S: Shelf + Drop, G: Sink + Drop> Shelf for LoggedShelf<S, G> {
         size
     }
 
-    fn put(&mut self, alloc: Global, name: &Name, bytes: &[u8]) -> Result<(), ShelfFault>
+    fn stager(&self, number: u8) -> Result<S::Stager, AllocError>
+        ensures { IfOk result (λ stager. S.Stager.number stager ≡ number) }
+    {
+        self.shelf.stager(number)
+    }
+
+    fn put(
+        &mut self,
+        alloc: Global,
+        name: &Name,
+        bytes: &[u8],
+        part: Option<u8>,
+    ) -> Result<(), ShelfFault>
         ensures ok { OnOk result (S.files self.new.shelf
             ≡ option_map (with_file name.now bytes.now) (S.files self.old.shelf)) }
         ensures err { OnErr result (S.files self.new.shelf ≡ S.files self.old.shelf) }
@@ -122,7 +141,7 @@ impl<S: Shelf + Drop, G: Sink + Drop> Shelf for LoggedShelf<S, G> {
             (G.written self.old.log) (G.written self.new.log)
             (G.faults self.old.log) (G.faults self.new.log) }
     {
-        let done = self.shelf.put(alloc, name, bytes);
+        let done = self.shelf.put(alloc, name, bytes, part);
         let what: &[u8] = if done.is_err() {
             b": it can't be stored"
         } else {

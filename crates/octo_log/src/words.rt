@@ -1,7 +1,7 @@
 //! The words of the events.
 ghost use Rattle.std.specs.Prelude.{◌≡◌, ◌<◌, ◌≤◌, ◌+◌, ◌++◌, length, decimal};
 ghost use Rattle.arrayvec.specs.ArrayVec.{array_vec_len};
-ghost use Rattle.octo_log.specs.Lines.{line_of, short, asks_again, dial_words, has_no_link, outcome_words, time_words, end_words, begin_words, file_words, said_words, serving_words, stopped_words};
+ghost use Rattle.octo_log.specs.Lines.{line_of, outcome_words, time_words, end_words, begin_words, file_words, serving_words, stopped_words};
 ghost use Rattle.octo_log.specs.Logged.{Logs};
 ghost use Rattle.octo_log.specs.declared.line.TheConstants.{MOST_LOG_BYTES};
 
@@ -10,65 +10,9 @@ use arrayvec::ArrayVec;
 use byte_text::{Name, append, append_decimal, append_number, bounded_text};
 use octo_outside::Sink;
 use print_queue::{Ending, Outcome, PrintRow};
-use printer_link::LinkFault;
 
 // A time in words, of at most 29 bytes.
 type TimeText = ArrayVec<u8, 32>;
-
-// How many bytes of a port's name and of an error are shown.
-const SHOWN: usize = 100;
-
-// The first bytes of a text that may be long.
-fn short(name: &[u8]) -> &[u8]
-    ensures value { result.now ≡ short name.now }
-    ensures short { length result.now ≤ 100 }
-{
-    &name[..SHOWN.min(name.len())]
-}
-
-// What came of making a link to a port.
-pub(crate) fn dial_words(port: &str, made: &Result<(), LinkFault>) -> LogLine
-    ensures words { result.items ≡ dial_words port.now made.now }
-    ensures short { length result.items < MOST_LOG_BYTES }
-{
-    let mut words = match made {
-        Ok(()) => bounded_text(b"printer: connected to "),
-        Err(LinkFault::NoPort) => bounded_text(b"printer: no port "),
-        Err(LinkFault::Failed) => bounded_text(b"printer: no link to "),
-    };
-    append(&mut words, short(port.as_bytes()));
-    words
-}
-
-// Whether a call found that there is no link to a listed port.
-pub(crate) fn has_no_link(made: &Result<(), LinkFault>) -> bool
-    ensures { result ≡ has_no_link made.now }
-{
-    match made {
-        Err(LinkFault::Failed) => true,
-        Ok(()) | Err(LinkFault::NoPort) => false,
-    }
-}
-
-// Whether an error only asks for a line again. Source: Marlin's queue.cpp.
-pub(crate) fn asks_again(text: &[u8]) -> bool
-    ensures { result ≡ asks_again text.now }
-{
-    text.starts_with(b"Error:checksum mismatch")
-        || text.starts_with(b"Error:Line Number is not")
-        || text.starts_with(b"Error:No Checksum")
-        || text.starts_with(b"Error:No Line Number")
-}
-
-// An error that the printer reports.
-pub(crate) fn said_words(text: &[u8]) -> LogLine
-    ensures words { result.items ≡ said_words text.now }
-    ensures short { length result.items < MOST_LOG_BYTES }
-{
-    let mut words = bounded_text(b"printer: ");
-    append(&mut words, short(text));
-    words
-}
 
 // What became of a print that ended.
 fn outcome_words(outcome: Outcome) -> &'static [u8]

@@ -14,9 +14,9 @@ use Rattle.octo_asks.specs.declared.request.Request.TheVariants.{Leave, AutoConn
 use Rattle.octo_asks.specs.declared.entry.Entry.TheVariants as entry
 use Rattle.octo_asks.specs.History.{History, calls_of}
 use Rattle.octo_api_worker.specs.declared.terms.Terms.{Terms}
-use Rattle.octo_api_worker.specs.Served.{IsServed, no_message, message}
+use Rattle.octo_api_worker.specs.Served.{IsServed}
 use Rattle.octo_api_worker.specs.Worked.{Served, none_served, one_more, Leaves, no_leave, one_leave, IsAsk, HasReturned, HasWorked}
-use Rattle.octo_api_worker.proofs.Asked.{leads_to, leads_asks}
+use Rattle.octo_api_worker.proofs.Asked.{served_asks}
 use Rattle.hand_over.specs.Ends.{HistoryData}
 use Rattle.hand_over.specs.Views.{AreCalls, has_close, is_own, all_of_four}
 use Rattle.octo_house_rules.specs.Counted.{is_leave, leaves_made, is_shut}
@@ -42,9 +42,7 @@ asks_leave_none (entry.Close ∷ es) all = absurd (All-head IsAsk entry.Close es
 
 conn_leaves_none : (terms : Terms) (input : List ℕ) (conn : ConnState) (is_open : Bool) (calls : History) → IsServed terms input conn is_open calls
     → leaves_made calls ≡ 0
-conn_leaves_none terms input conn is_open calls (no_message fault sent bytes answers cause replied wrote) = refl
-conn_leaves_none terms input conn is_open calls (message m sent reply is made says replied wrote) =
-    asks_leave_none made (leads_asks made (leads_to terms.origins m reply is made replied))
+conn_leaves_none terms input conn is_open calls served = asks_leave_none calls (served_asks terms input conn is_open calls served)
 
 walk_leaves_none : (terms : Terms) (inputs : List (List ℕ)) (conns : List ConnState) (is_open : Bool) (calls : History)
     → Served terms inputs conns is_open calls → leaves_made calls ≡ 0

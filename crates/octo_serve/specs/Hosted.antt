@@ -15,6 +15,7 @@ use Rattle.octo_house_rules.specs.Tied.{TiesLines}
 use Rattle.octo_house_tables.specs.Kept.{KeepsRows}
 use Rattle.octo_house.specs.declared.house.House.{House}
 use Rattle.octo_house.specs.State.{IsListed, session_of, tables_of}
+use Rattle.octo_house_run.specs.Laws.{RunKeepsLaws}
 use Rattle.octo_house_run.specs.Runs.{HasRun, HasRunOver, RunKeepsPrints, IsOver, ArePassed, begins}
 use Rattle.octo_serve.specs.Around.{LinkState, KeeperState, ShelfState, DoorState}
 use Rattle.octo_serve.specs.Doors.{AreServed, AllHaveNoMore}
@@ -38,6 +39,8 @@ pub record Ran (old new : Setting) (past past' : Option History) (calls : ℕ) :
   pub history : HasRun past past' old.shelf.files new.shelf.files old.house new.house
   -- whatever the shelf records, it does so over some contents of the shelf
   pub contents : HasRunOver past past' old.house new.house
+  -- so it keeps the laws: of calls, whatever the shelf records, and of prints
+  pub laws : RunKeepsLaws past past' old.shelf.files old.house
   pub over : Became past past' (λ _ added. IsOver calls (session_of new.house).desk.active added)
   pub listed : IsListed old.shelf.files old.house → IsListed new.shelf.files new.house
   pub kept : KeepsRows old.keeper.tables new.keeper.tables (tables_of old.house) (tables_of new.house)

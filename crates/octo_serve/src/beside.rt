@@ -4,22 +4,25 @@ ghost use Rattle.std.specs.Thread.{IsSend, IsSync};
 ghost use Rattle.octo_serve.specs.Around.{door_state, door_states};
 ghost use Rattle.octo_serve.specs.Doors.{WorksAt, AllWork, asker_state, worker_state};
 
+use crate::stagers::Stagers;
 use hand_over::Workers;
 use octo_api_routes::Routes;
 use octo_api_worker::{Terms, worker};
 use octo_asks::Asker;
+use octo_keeper::Stager;
 use octo_outside_doors::{Door, Doors};
 use std::alloc::Global;
 use std::sync::Wait;
 use std::thread::{Threads, join_mut};
 
 // A worker at its door.
-fn work_at<R: Wait, D: Door, A: Asker>(
+fn work_at<R: Wait, D: Door, A: Asker, P: Stager>(
     rt: &R,
     alloc: Global,
     routes: &Routes,
     door: &mut D,
     asker: &mut A,
+    stager: &mut P,
     terms: &Terms,
 ) -> bool
     ensures { WorksAt terms.now (door_state D.coming D.served D.faults door.old)
@@ -27,17 +30,25 @@ fn work_at<R: Wait, D: Door, A: Asker>(
         (asker_state A.mine A.saw_close A.place asker.old)
         (asker_state A.mine A.saw_close A.place asker.new) result }
 {
-    worker(rt, alloc, routes, door, asker, terms)
+    worker(rt, alloc, routes, door, asker, stager, terms)
 }
 
 // A worker at its door in a thread of its own, and other work in this one. Returns whether the
 // door held, and what the work returned.
-fn one_beside<R: Threads + Wait + Sync, D: Door + Send, A: Asker + Send, G: FnMut() -> B, B>(
+fn one_beside<
+    R: Threads + Wait + Sync,
+    D: Door + Send,
+    A: Asker + Send,
+    P: Stager + Send,
+    G: FnMut() -> B,
+    B,
+>(
     rt: &R,
     alloc: Global,
     routes: &Routes,
     door: &mut D,
     asker: &mut A,
+    stager: &mut P,
     terms: &Terms,
     work: &mut G,
 ) -> (bool, B)
@@ -50,13 +61,20 @@ fn one_beside<R: Threads + Wait + Sync, D: Door + Send, A: Asker + Send, G: FnMu
 {
     join_mut(
         rt,
-        &mut || work_at(rt, alloc, routes, door, asker, terms),
+        &mut || work_at(rt, alloc, routes, door, asker, stager, terms),
         work,
     )
 }
 
 // Two workers at their doors, and other work in this thread. Returns whether both doors held.
-fn two_beside<R: Threads + Wait + Sync, D: Door + Send, A: Asker + Send, G: FnMut() -> B, B>(
+fn two_beside<
+    R: Threads + Wait + Sync,
+    D: Door + Send,
+    A: Asker + Send,
+    P: Stager + Send,
+    G: FnMut() -> B,
+    B,
+>(
     rt: &R,
     alloc: Global,
     routes: &Routes,
@@ -64,6 +82,8 @@ fn two_beside<R: Threads + Wait + Sync, D: Door + Send, A: Asker + Send, G: FnMu
     two: &mut D,
     first: &mut A,
     second: &mut A,
+    first_stager: &mut P,
+    second_stager: &mut P,
     terms: &Terms,
     work: &mut G,
 ) -> (bool, (bool, B))
@@ -84,25 +104,27 @@ fn two_beside<R: Threads + Wait + Sync, D: Door + Send, A: Asker + Send, G: FnMu
         routes,
         one,
         first,
+        first_stager,
         terms,
         &mut || -> (bool, B)
             requires { IsSync R.row × IsSend D.row × IsSend D.Conn.row × IsSend A.row
-                × G.pre work.now }
+                × IsSend P.row × G.pre work.now }
             ensures second { WorksAt terms.entry.now
                 (door_state D.coming D.served D.faults two.entry.now)
                 (door_state D.coming D.served D.faults two.exit.now)
                 (asker_state A.mine A.saw_close A.place second.entry.now)
                 (asker_state A.mine A.saw_close A.place second.exit.now) result.0 }
             ensures work { G.step work.entry.now result.1 work.exit.now }
-        { one_beside(rt, alloc, routes, two, second, terms, work) },
+        { one_beside(rt, alloc, routes, two, second, second_stager, terms, work) },
     )
 }
 
-// Four workers at four doors, each in a thread of its own, and other work in this one. The workers share a table of routes and
-// the terms of connections. Returns whether all doors held, and what the work returned.
+// Four workers at four doors, each in a thread of its own and with a stager of its own, and other work in this one. The workers
+// share a table of routes and the terms of connections. Returns whether all doors held, and what the work returned.
 pub(crate) fn four_beside<
     R: Threads + Wait + Send + Sync,
     D: Door + Send + Drop,
+    P: Stager + Send + Drop,
     G: FnMut() -> B,
     B,
 >(
@@ -111,6 +133,7 @@ pub(crate) fn four_beside<
     routes: &Routes,
     doors: &mut Doors<D>,
     workers: &mut Workers<R>,
+    stagers: &mut Stagers<P>,
     terms: &Terms,
     work: &mut G,
 ) -> (bool, B)
@@ -128,6 +151,12 @@ pub(crate) fn four_beside<
         c: third,
         d: fourth,
     } = workers;
+    let Stagers {
+        a: first_stager,
+        b: second_stager,
+        c: third_stager,
+        d: fourth_stager,
+    } = stagers;
     let (a_held, (b_held, (c_held, (d_held, done)))) = two_beside(
         rt,
         alloc,
@@ -136,10 +165,12 @@ pub(crate) fn four_beside<
         b,
         first,
         second,
+        first_stager,
+        second_stager,
         terms,
         &mut || -> (bool, (bool, B))
             requires { IsSync R.row × IsSend D.row × IsSend D.Conn.row × IsSend R.row
-                × G.pre work.now }
+                × IsSend P.row × G.pre work.now }
             ensures third { WorksAt terms.entry.now
                 (door_state D.coming D.served D.faults c.entry.now)
                 (door_state D.coming D.served D.faults c.exit.now)
@@ -149,7 +180,21 @@ pub(crate) fn four_beside<
                 (door_state D.coming D.served D.faults d.exit.now)
                 (worker_state fourth.entry.now) (worker_state fourth.exit.now) result.1.0 }
             ensures work { G.step work.entry.now result.1.1 work.exit.now }
-        { two_beside(rt, alloc, routes, c, d, third, fourth, terms, work) },
+        {
+            two_beside(
+                rt,
+                alloc,
+                routes,
+                c,
+                d,
+                third,
+                fourth,
+                third_stager,
+                fourth_stager,
+                terms,
+                work,
+            )
+        },
     );
     (a_held && b_held && c_held && d_held, done)
 }

@@ -5,5 +5,6 @@
 mod beside;
 mod house_counter;
 mod serving;
+mod stagers;
 
 pub use serving::{Served, serve};

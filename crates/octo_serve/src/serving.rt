@@ -8,9 +8,11 @@ ghost use Rattle.octo_outside.specs.Recorded.{Became};
 ghost use Rattle.octo_serve.specs.Around.{link_state, keeper_state, shelf_state};
 ghost use Rattle.octo_serve.specs.Around.{door_state, door_states};
 ghost use Rattle.octo_serve.specs.Hosted.{setting, Ran, HasHosted};
+ghost use Rattle.printer_link.specs.Suits.{SuitsAs};
 
 use crate::beside::four_beside;
 use crate::house_counter::HouseCounter;
+use crate::stagers::stagers_of;
 use hand_over::{History, ends};
 use octo_api_routes::Routes;
 use octo_api_worker::Terms;
@@ -49,6 +51,7 @@ fn run_house<R: Wait, L: Link, T: Clock, K: Keeper, S: Shelf, G: Sink + Drop>(
 ) -> u64
     requires fresh { IsFresh (session_of house.old) }
     requires down { L.up link.old ≡ false }
+    requires suits { SuitsAs false (L.past link.old) (L.kind link.old).oks }
     requires answered { counter.old.counter.end.view.taken ≡ None }
     requires open { counter.old.counter.end.view.closed ≡ false }
 
@@ -68,7 +71,8 @@ fn run_house<R: Wait, L: Link, T: Clock, K: Keeper, S: Shelf, G: Sink + Drop>(
 
 /// Serves the connections of four doors by four workers, each in a thread of its own, while the
 /// house answers their asks and turns the link in this thread. It goes on until a shutdown was
-/// accepted, or all four workers have left and no print is active.
+/// accepted, or all four workers have left and no print is active. Each worker has a stager of the shelf, which writes the files
+/// of uploads in its thread.
 ///
 /// If `connects` says so, the house connects to its first port by itself, as `run` says. The terms hold for each connection.
 /// The call may wait without an end. If memory runs out at its beginning, nothing was touched; if it runs out later, the
@@ -99,6 +103,7 @@ pub fn serve<
 ) -> Result<Served, AllocError>
     requires fresh { IsFresh (session_of house.old) }
     requires down { L.up link.old ≡ false }
+    requires suits { SuitsAs false (L.past link.old) (L.kind link.old).oks }
 
     ensures ok { let at = setting (link_state L.kind L.past L.calls L.up L.faults) T.moment
         (keeper_state K.tables K.faults) (shelf_state S.files S.faults) in
@@ -112,7 +117,7 @@ pub fn serve<
     // When it connects by itself.
     ensures own { IfOk result (λ served. ConnectsItself connects served.history.history) }
 
-    // Without memory for the table of routes or for the workers' ends nothing was touched.
+    // Without memory for the table of routes, the stagers or the workers' ends nothing was touched.
     ensures house { OnErr result (house.new ≡ house.old) }
     ensures link { OnErr result (link.new ≡ link.old) }
     ensures clock { OnErr result (clock.new ≡ clock.old) }
@@ -121,6 +126,7 @@ pub fn serve<
     ensures doors { OnErr result (doors.new ≡ doors.old) }
 {
     let routes = Routes::new(alloc)?;
+    let mut stagers = stagers_of(shelf)?;
     let (counter, mut workers) = ends(rt, alloc, &doors.a.bell())?;
     let mut counter = LoggedCounter::new(HouseCounter::new(counter), log);
     let (doors_held, calls) = four_beside(
@@ -129,9 +135,11 @@ pub fn serve<
         &routes,
         doors,
         &mut workers,
+        &mut stagers,
         terms,
         &mut || -> u64
             requires { IsFresh (session_of house.now) × (L.up link.now ≡ false)
+                × SuitsAs false (L.past link.now) (L.kind link.now).oks
                 × (counter.counter.end.view.taken ≡ None)
                 × (counter.counter.end.view.closed ≡ false) }
             ensures ran { let at = setting (link_state L.kind L.past L.calls L.up L.faults) T.moment

@@ -13,6 +13,7 @@ use Rattle.octo_house_contents.specs.Contents.{LegalOver}
 use Rattle.octo_house_laws.proofs.Contents.{keeps_over, every_line_over}
 use Rattle.octo_house_laws.proofs.Hosts.{new_host_keeps}
 use Rattle.octo_house_laws.proofs.Limits.{every_line_of_settings}
+use Rattle.octo_house_laws.proofs.Prints.{new_host_keeps_prints}
 use Rattle.octo_serve.specs.Hosted.{HasHosted}
 use Rattle.octo_settings.specs.Sound.{IsSettings}
 use Rattle.octo_settings.specs.declared.settings.Settings.{Settings}
@@ -57,5 +58,6 @@ host_laws_over s between new first last calls held known sound made hosted =
     record {
       contents = led.contents;
       laws = keeps_over led.contents known.history at legal;
+      prints = new_host_keeps_prints s.scripts s.limits s.poll_ms led.contents known.history at desk made.numbered legal;
       cool = every_line_over s led.contents known.history at sound desk legal;
     }

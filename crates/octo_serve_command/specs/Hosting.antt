@@ -12,7 +12,7 @@ use Rattle.print_queue.specs.Lawful.{IsLawful}
 use Rattle.printer_model.specs.declared.event.WorldEvent.{WorldEvent}
 use Rattle.octo_house_rules.specs.Legal.{beginning}
 use Rattle.octo_house_rules.specs.Headline.{KeepsPrints}
-use Rattle.octo_house_laws.specs.Contents.{KeepsLawsOver}
+use Rattle.octo_house_laws.specs.Contents.{KeepsLawsOver, KeepsPrintsOver}
 use Rattle.octo_house_laws.specs.Hosts.{KeepsLaws}
 use Rattle.octo_house_laws.specs.Limits.{IssuesCoolLines}
 use Rattle.octo_house_tables.specs.Kept.{IsKept}
@@ -95,11 +95,12 @@ pub record KeepsAllLaws (s : Settings) (first : House) (files : List ShelfFile) 
 abbrev pub HasLaws : Settings → Around → House → History → Type 0
 HasLaws s old first history = (files : List ShelfFile) → old.shelf.files ≡ Some files → KeepsAllLaws s first files history
 
--- whatever the shelf records, it had some contents before each entry over which the laws of calls hold of all that was asked, answered and
--- noted at a host that began as this one; no issued line was too hot
+-- whatever the shelf records, it had some contents before each entry over which the laws of calls and prints hold of all that was asked,
+-- answered and noted at a host that began as this one; no issued line was too hot
 pub record HasLawsOver (s : Settings) (first : House) (history : History) : Type 0 where
   pub contents : List (List ShelfFile)
   pub laws : KeepsLawsOver contents history (beginning s.window s.limit_ms (known_of first) [])
+  pub prints : KeepsPrintsOver s.scripts contents history (beginning s.window s.limit_ms (known_of first) [])
   pub cool : IssuesCoolLines s.limits history
 
 -- it began, and served its doors until it ended; this is known of what was asked, answered and noted

@@ -10,6 +10,7 @@ ghost use Rattle.octo_settings.specs.Sound.{IsSettings};
 ghost use Rattle.octo_serve_command.specs.Hosting.{around, ServesBy, Hosts, HasHostCauses};
 ghost use Rattle.octo_serve_command.specs.Reports.{begin_fault_report, served_report};
 ghost use Rattle.octo_serve_command.specs.declared.report.HostReport.TheVariants as host;
+ghost use Rattle.printer_link.specs.Suits.{SuitsAs};
 
 use crate::beginning::{Begun, begin_by};
 use crate::report::HostReport;
@@ -106,6 +107,7 @@ fn serve_by<
 ) -> HostEnd
     requires sound { IsSettings settings }
     requires down { L.up link.old ≡ false }
+    requires suits { SuitsAs false (L.past link.old) (L.kind link.old).oks }
 
     ensures serves { let at = around (link_state L.kind L.past L.calls L.up L.faults) T.moment
         (keeper_state K.tables K.faults) (shelf_state S.files S.faults)
@@ -166,6 +168,7 @@ pub fn host<
     log: G,
 ) -> HostEnd
     requires down { L.up link.old ≡ false }
+    requires suits { SuitsAs false (L.past link.old) (L.kind link.old).oks }
 
     // What it comes to, and each failure by its cause.
     ensures hosts { let at = around (link_state L.kind L.past L.calls L.up L.faults) T.moment

@@ -30,6 +30,7 @@ link_at port fates = new_link (record {
   slow = 0;
   fail_at = [];
   restart_at = [];
+  lost = [];
 })
 
 -- an active user of one group

@@ -16,6 +16,7 @@ use std::alloc::Global;
 pub fn link_at(alloc: Global, port: &str, fates: FateList) -> Option<MemoryLink>
     ensures link { IfSome result (λ link. link ≡ link_at port.now fates) }
     ensures down { IfSome result (λ link. (link_world link).linked ≡ false) }
+    ensures plain { IfSome result (λ link. link.story.oks.lost ≡ false) }
 {
     let schedule = Schedule {
         names: ports(alloc, port)?,
@@ -26,6 +27,7 @@ pub fn link_at(alloc: Global, port: &str, fates: FateList) -> Option<MemoryLink>
         slow: 0,
         fail_at: CallList::new(alloc),
         restart_at: CallList::new(alloc),
+        lost: CallList::new(alloc),
     };
     MemoryLink::new(alloc, schedule).ok()
 }

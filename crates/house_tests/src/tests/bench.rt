@@ -1,5 +1,5 @@
 //! A host with its keeper, its shelf and its link.
-use super::seen::{Seen, seen_of};
+use super::seen::{Seen, cause_of, seen_of};
 use super::wishes::{Wish, request_of};
 use job_desk::State;
 use octo_asks::Ask;
@@ -123,12 +123,14 @@ impl Bench {
             }
             self.turn(rt);
         }
-        panic!(rt; "not in the state {state:?}");
+        let found = self.state();
+        panic!(rt; "in the state {found:?}, not in {state:?}");
     }
 
     // Asks, and sees this.
     pub(super) fn sees(&mut self, rt: &impl Abort, key: &[u8], wish: Wish, wanted: Seen) {
-        assert!(rt; self.ask(rt, key, wish) == wanted);
+        let seen = self.ask(rt, key, wish);
+        assert!(rt; seen == wanted, "{}", cause_of(seen));
     }
 
     pub(super) fn accepts(&mut self, rt: &impl Abort, key: &[u8], wish: Wish) {

@@ -59,6 +59,7 @@ pub(super) enum Seen {
     Full(u32),
     KeeperFault,
     ShelfFault,
+    NoMemory,
     // Turns of the link were taken.
     Turned,
     // The same, and the end of a print wasn't written.
@@ -116,7 +117,19 @@ pub(super) fn seen_of(answer: &Answer) -> Seen {
         Answer::Full { count } => Seen::Full(*count),
         Answer::KeeperFault => Seen::KeeperFault,
         Answer::ShelfFault => Seen::ShelfFault,
+        Answer::NoMemory => Seen::NoMemory,
         _ => Seen::Other,
+    }
+}
+
+// What kept a step from its outcome, if memory ran out or a call failed.
+pub(super) fn cause_of(seen: Seen) -> &'static str {
+    match seen {
+        Seen::NoMemory => "out of memory",
+        Seen::Stored(StoredCause::NoMemory) => "Stored, NoMemory",
+        Seen::KeeperFault | Seen::Stored(StoredCause::KeeperFault) => "keeper failed",
+        Seen::ShelfFault => "shelf failed",
+        _ => "another outcome",
     }
 }
 

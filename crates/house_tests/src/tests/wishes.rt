@@ -1,7 +1,7 @@
 //! What tests ask for.
 use byte_text::Name;
 use job_desk::State;
-use octo_asks::{BlobList, Request};
+use octo_asks::{BlobList, Request, Sought, Upload};
 use octo_outside::{Blob, ItemList};
 use std::alloc::Global;
 use std::process::Abort;
@@ -77,7 +77,9 @@ pub(super) fn request_of(rt: &impl Abort, alloc: Global, wish: Wish) -> Request 
         },
         Wish::Delete => Request::DeleteFile { name: file(rt) },
         Wish::Show => Request::GetFile { name: file(rt) },
-        Wish::Download => Request::Download { name: file(rt) },
+        Wish::Download => Request::Download {
+            name: Sought::new(file(rt)),
+        },
         Wish::AddUser(name) => added_user(rt, alloc, name),
         Wish::SwitchOff => switched_off(rt),
         _ => plain_request(wish),
@@ -130,7 +132,7 @@ fn file(rt: &impl Abort) -> byte_text::Name {
 fn upload(rt: &impl Abort, alloc: Global, text: &[u8], print: bool) -> Request {
     Request::PutFile {
         name: file(rt),
-        bytes: Blob::from_slice(alloc, text).expect(rt, "no memory"),
+        file: Upload::read(alloc, text).expect(rt, "no memory"),
         select: false,
         print,
     }

@@ -16,7 +16,7 @@ ghost use Rattle.octo_house_rules.specs.Rows.{put_entry_verdict};
 ghost use Rattle.octo_house_rules.specs.Verdict.{gives};
 ghost use Rattle.octo_house.specs.Answered.{Answers, AnswersOn, AnswersOnSome, Shelves, IsUntouched, AskDone, KeeperDone};
 ghost use Rattle.octo_house.specs.Asking.{IsPermitted, IsTurnedAway};
-ghost use Rattle.octo_house.specs.Groups.{is_edit, is_row, is_reading};
+ghost use Rattle.octo_house.specs.Groups.{is_edit, is_row, is_reading, has_file};
 ghost use Rattle.octo_house.specs.State.{IsDeskAlone, known_of};
 
 use super::House;
@@ -65,7 +65,7 @@ impl House {
             return self.free(&ask);
         }
         match self.permitted(&ask) {
-            Ok(user) => self.answer(keeper, shelf, &user, &ask.request),
+            Ok(user) => self.answer(keeper, shelf, &user, ask.request),
             Err(answer) => answer,
         }
     }
@@ -125,14 +125,54 @@ impl House {
         None
     }
 
-    // Answers a permitted request: first those that show something, then those for the desk and the selected file.
+    // Answers a permitted request. The file of an upload, and what was fetched for a download, are taken out of it, and so aren't
+    // copied.
     fn answer<K: Keeper, S: Shelf>(
+        &mut self,
+        keeper: &mut K,
+        shelf: &mut S,
+        user: &UserRow,
+        request: Request,
+    ) -> Answer
+        ensures done { AnswersOn (S.files shelf.old)
+            (λ files. request_verdict request user.now files (known_of self.old))
+            result self.old self.new }
+        ensures some { is_reading request ≡ true → AnswersOnSome
+            (λ files. request_verdict request user.now files (known_of self.old))
+            result self.old self.new }
+        ensures granted { is_reading request ≡ true → is_denied result ≡ false }
+        ensures files { Shelves (S.files shelf.old) (S.files shelf.new)
+            (λ files. request_verdict request user.now files (known_of self.old)) result }
+        ensures saved { request ≡ Backup → result ≡ answer.Accepted
+            → K.saved keeper.new ≡ K.tables keeper.old }
+        ensures rest { AskDone K.tables K.faults S.files S.faults
+            keeper.old keeper.new shelf.old shelf.new result self.old self.new }
+    {
+        match request {
+            Request::PutFile {
+                name,
+                file,
+                select,
+                print,
+            } => self.put_file(keeper, shelf, user, &name, file, Wanted { select, print }),
+            Request::Download { name } => {
+                let (name, fetched) = name.into_parts();
+                self.download(shelf, &name, fetched)
+            }
+            other => self.answer_other(keeper, shelf, user, &other),
+        }
+    }
+
+    // Answers a permitted request that holds no file: first those that show something, then those for the desk and the
+    // selected file.
+    fn answer_other<K: Keeper, S: Shelf>(
         &mut self,
         keeper: &mut K,
         shelf: &mut S,
         user: &UserRow,
         request: &Request,
     ) -> Answer
+        requires { has_file request.now ≡ false }
         ensures done { AnswersOn (S.files shelf.old)
             (λ files. request_verdict request.now user.now files (known_of self.old))
             result self.old self.new }
@@ -155,7 +195,6 @@ impl House {
             Request::GetJob => self.desk.job(),
             Request::ListFiles => self.list_files(shelf),
             Request::GetFile { name } => self.file(shelf, name),
-            Request::Download { name } => self.download(shelf, name),
             Request::ListUsers => self.list_users(),
             Request::ListQueue => self.list_queue(user),
             Request::ListPrints => self.list_prints(user),
@@ -200,18 +239,6 @@ impl House {
             keeper.old keeper.new shelf.old shelf.new result self.old self.new }
     {
         match request {
-            Request::PutFile {
-                name,
-                bytes,
-                select,
-                print,
-            } => {
-                let asked = Wanted {
-                    select: *select,
-                    print: *print,
-                };
-                self.put_file(keeper, shelf, user, name, bytes.as_slice(), asked)
-            }
             Request::SelectFile { name, print: true } => {
                 self.print_named(keeper, shelf, &user.name, name)
             }

@@ -16,7 +16,7 @@ use octo_asks::{Answer, ShownFile};
 use octo_house_tables::{
     answer_of_refusal, answer_of_shelf_fault, drop_name, read_bytes, read_size, shown_files,
 };
-use octo_keeper::Shelf;
+use octo_keeper::{Fetched, Shelf};
 
 impl House {
     // All files.
@@ -61,8 +61,13 @@ impl House {
         }
     }
 
-    // The bytes of a file.
-    pub(super) fn download<S: Shelf>(&self, shelf: &mut S, name: &Name) -> Answer
+    // The bytes of a file, which a stager may have read.
+    pub(super) fn download<S: Shelf>(
+        &self,
+        shelf: &mut S,
+        name: &Name,
+        fetched: Option<Fetched>,
+    ) -> Answer
         ensures done { AnswersOn (S.files shelf.old)
             (λ files. download_verdict name.now files (known_of self.now))
             result self.now self.now }
@@ -75,7 +80,7 @@ impl House {
         if !self.holds(name) {
             return Answer::NoFile;
         }
-        match read_bytes(self.desk.alloc, shelf, name) {
+        match read_bytes(self.desk.alloc, shelf, name, fetched) {
             Ok(bytes) => Answer::Download { bytes },
             Err(answer) => answer,
         }

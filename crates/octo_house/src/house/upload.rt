@@ -18,10 +18,10 @@ ghost use Rattle.octo_house.specs.Storing.{IsStored, IsNotStored, IsStartable, c
 
 use super::House;
 use byte_text::Name;
-use gcode_lines::{Job, read_commands};
+use gcode_lines::Job;
 use job_desk::{Limits, State};
 use octo_access::{Permission, UserRow};
-use octo_asks::{Answer, PrintRefusal, StoredCause};
+use octo_asks::{Answer, PrintRefusal, StoredCause, Upload};
 use octo_house_tables::{
     add_name, answer_of_refusal, answer_of_shelf_fault, bad_file, may_select, reserve_name,
 };
@@ -45,22 +45,23 @@ impl House {
         shelf: &mut S,
         user: &UserRow,
         name: &Name,
-        bytes: &[u8],
+        file: Upload,
         asked: Wanted,
     ) -> Answer
-        ensures done { Answers (put_file_verdict user.now name.now bytes.now
+        ensures done { Answers (put_file_verdict user.now name.now file
             asked.select asked.print (known_of self.old)) result self.old self.new }
         ensures files { Shelves (S.files shelf.old) (S.files shelf.new)
-            (λ _. put_file_verdict user.now name.now bytes.now
+            (λ _. put_file_verdict user.now name.now file
             asked.select asked.print (known_of self.old)) result }
         ensures rest { AskDone K.tables K.faults S.files S.faults
             keeper.old keeper.new shelf.old shelf.new result self.old self.new }
     {
-        let job = match read_commands(self.desk.alloc, bytes) {
+        let part = file.part();
+        let job = match file.into_job() {
             Ok(job) => job,
             Err(fault) => return bad_file(fault),
         };
-        if let Err(answer) = self.store(shelf, name, bytes) {
+        if let Err(answer) = self.store(shelf, name, &job, part) {
             return answer;
         }
         let wanted = self.wanted(user, &job, asked);
@@ -76,13 +77,20 @@ impl House {
         self.print_stored(keeper, &user.name, name, commands)
     }
 
-    // Stores a file in the place of a former one, whose selection is dropped.
-    fn store<S: Shelf>(&mut self, shelf: &mut S, name: &Name, bytes: &[u8]) -> Result<(), Answer>
+    // Stores the file of a job, which a stager may have written as that part, in the place of a former one, whose selection is
+    // dropped.
+    fn store<S: Shelf>(
+        &mut self,
+        shelf: &mut S,
+        name: &Name,
+        job: &Job,
+        part: Option<u8>,
+    ) -> Result<(), Answer>
         ensures stored { MatchResult result
             (λ _. IsStored name.now self.old self.new)
             (λ answer. IsNotStored name.now self.old self.new answer) }
         ensures files { OnOk result (S.files shelf.new
-            ≡ option_map (with_file name.now bytes.now) (S.files shelf.old)) }
+            ≡ option_map (with_file name.now job.now.file) (S.files shelf.old)) }
         ensures same { OnErr result (S.files shelf.new ≡ S.files shelf.old) }
         ensures rows { AreRowsLeft self.old self.new }
         ensures listed { IsListed (S.files shelf.old) self.old
@@ -98,7 +106,7 @@ impl House {
         let Ok(()) = reserve_name(&mut self.names) else {
             return Err(Answer::NoMemory);
         };
-        if let Err(fault) = shelf.put(self.desk.alloc, name, bytes) {
+        if let Err(fault) = shelf.put(self.desk.alloc, name, job.text(), part) {
             return Err(answer_of_shelf_fault(fault));
         }
         let _ = self.desk.session.drop_file(name);

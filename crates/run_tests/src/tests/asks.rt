@@ -1,6 +1,6 @@
 //! Lists of asks.
 use byte_text::Name;
-use octo_asks::{Ask, AskList, BlobList, Request};
+use octo_asks::{Ask, AskList, BlobList, Request, Upload};
 use octo_outside::Blob;
 use std::alloc::Global;
 use std::process::Abort;
@@ -55,7 +55,7 @@ pub(super) fn stop(rt: &impl Abort, alloc: Global) -> Request {
 pub(super) fn put_file(rt: &impl Abort, alloc: Global, select: bool, bytes: &[u8]) -> Request {
     Request::PutFile {
         name: Name::from_text("a.gcode").expect(rt, "a long name"),
-        bytes: Blob::from_slice(alloc, bytes).expect(rt, "no memory"),
+        file: Upload::read(alloc, bytes).expect(rt, "no memory"),
         select,
         print: true,
     }

@@ -100,6 +100,7 @@ impl Ran {
     ) -> Ran
         requires answered { counter.counter.given ≡ None }
         requires open { counter.counter.closed ≡ false }
+        requires plain { link.story.oks.lost ≡ false }
     {
         let mut keeper = keeper_of(alloc, no_rows(alloc), fails).expect(rt, "no memory");
         let mut shelf = shelf_of(alloc, &[]).expect(rt, "no memory");

@@ -97,13 +97,13 @@ fn ample_shown_print(rt: HostRuntime) {
 // A shelf that holds a file of one command.
 fn shelf(rt: &impl Abort, alloc: Global, file: &Name) -> MemoryShelf {
     let mut shelf = MemoryShelf::new(alloc, CallList::new(alloc));
-    assert!(rt; shelf.put(alloc, file, b"G28\n").is_ok());
+    assert!(rt; shelf.put(alloc, file, b"G28\n", None).is_ok());
     shelf
 }
 
 // The number of bytes of a file at a shelf, and of its commands.
 fn file_read<S: Shelf>(alloc: Global, shelf: &mut S, file: &Name) -> Option<(usize, usize)> {
-    let bytes = match read_bytes(alloc, shelf, file) {
+    let bytes = match read_bytes(alloc, shelf, file, None) {
         Ok(bytes) => bytes.as_slice().len(),
         Err(_) => return None,
     };

@@ -1,4 +1,5 @@
 //! A host with all that it serves with but its doors.
+ghost use Rattle.std.specs.Prelude.{◌≡◌, false};
 ghost use Rattle.octo_house.specs.State.{session_of};
 ghost use Rattle.octo_house_run.specs.Runs.{IsFresh};
 
@@ -45,6 +46,7 @@ impl Bench {
     // A host over a link that loses this number of lines after the first one.
     pub(super) fn new(rt: &impl Abort, alloc: Global, lost: u32) -> Bench
         ensures fresh { IsFresh (session_of result.house) }
+        ensures plain { result.link.story.oks.lost ≡ false }
     {
         let link = link_at(alloc, "p", fates(rt, alloc, lost)).expect(rt, "no memory");
         let mut keeper = keeper_of(alloc, no_rows(alloc), &[]).expect(rt, "no memory");
@@ -66,6 +68,7 @@ impl Bench {
     pub(super) fn ask(&mut self, rt: &impl Abort, request: Request)
         requires fresh { IsFresh (session_of self.old.house) }
         ensures fresh { IsFresh (session_of self.new.house) }
+        ensures link { self.new.link ≡ self.old.link }
     {
         let key = Blob::from_slice(self.alloc, ROOT).expect(rt, "no memory");
         self.house
@@ -78,6 +81,7 @@ impl Bench {
         D: Door + Send + Drop,
     >(&mut self, rt: &R, doors: &mut Doors<D>) -> (u64, bool)
         requires fresh { IsFresh (session_of self.old.house) }
+        requires plain { self.old.link.story.oks.lost ≡ false }
     {
         assert!(rt; !self.link.is_up());
         let mut clock = RealRests::new(rt);

@@ -17,7 +17,8 @@ use test_makers::{calls, door_of, keeper_of, no_rows, ports, shelf_of};
 
 // A printer at port p with 4 buffer slots and the last number 4.
 fn link(alloc: Global, row: &Row) -> Option<MemoryLink>
-    ensures { IfSome result (λ link. (link_world link).linked ≡ false) }
+    ensures down { IfSome result (λ link. (link_world link).linked ≡ false) }
+    ensures plain { IfSome result (λ link. link.story.oks.lost ≡ false) }
 {
     let schedule = Schedule {
         names: ports(alloc, "p")?,
@@ -28,6 +29,7 @@ fn link(alloc: Global, row: &Row) -> Option<MemoryLink>
         slow: 0,
         fail_at: calls(alloc, row.link_fails)?,
         restart_at: calls(alloc, row.restarts)?,
+        lost: CallList::new(alloc),
     };
     MemoryLink::new(alloc, schedule).ok()
 }
@@ -90,7 +92,8 @@ struct Bench {
 impl Bench {
     // That of a row, whose connections come at its first door.
     fn of(rt: &impl Abort, alloc: Global, row: &Row) -> Bench
-        ensures { (link_world result.link).linked ≡ false }
+        ensures down { (link_world result.link).linked ≡ false }
+        ensures plain { result.link.story.oks.lost ≡ false }
     {
         Bench {
             files: files(rt, alloc, row),
@@ -107,7 +110,8 @@ impl Bench {
         alloc: Global,
         words: &WordList,
     ) -> Status
-        requires { (link_world self.old.link).linked ≡ false }
+        requires down { (link_world self.old.link).linked ≡ false }
+        requires plain { self.old.link.story.oks.lost ≡ false }
     {
         octo(
             rt,
@@ -203,7 +207,8 @@ fn code_on<R: Threads + Wait + Clone + Send + Sync + Drop + Abort>(
     bench: &mut Bench,
     row: &Row,
 ) -> u8
-    requires { (link_world bench.old.link).linked ≡ false }
+    requires down { (link_world bench.old.link).linked ≡ false }
+    requires plain { bench.old.link.story.oks.lost ≡ false }
 {
     let words = word_list(rt, alloc, row.words);
     code_of(bench.carry_out(rt, alloc, &words))

@@ -79,7 +79,8 @@ struct HostBench {
 impl HostBench {
     // That of a row, whose connections come at its first door.
     fn of(rt: &impl Abort, alloc: Global, row: &Row) -> HostBench
-        ensures { (link_world result.link).linked ≡ false }
+        ensures down { (link_world result.link).linked ≡ false }
+        ensures plain { result.link.story.oks.lost ≡ false }
     {
         HostBench {
             files: files(rt, alloc, row),
@@ -101,7 +102,8 @@ impl HostBench {
         rt: &R,
         alloc: Global,
     ) -> HostEnd
-        requires { (link_world self.old.link).linked ≡ false }
+        requires down { (link_world self.old.link).linked ≡ false }
+        requires plain { self.old.link.story.oks.lost ≡ false }
     {
         host(
             rt,

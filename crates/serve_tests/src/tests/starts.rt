@@ -1,12 +1,12 @@
 //! Two workers ask at once to start a print.
+ghost use Rattle.std.specs.Prelude.{◌≡◌, false};
 ghost use Rattle.octo_house.specs.State.{session_of};
 ghost use Rattle.octo_house_run.specs.Runs.{IsFresh};
 
 use super::late_door::{LateDoor, gate};
 use super::*;
 use byte_text::Name;
-use octo_asks::Request;
-use octo_outside::Blob;
+use octo_asks::{Request, Upload};
 use octo_outside_doors::Doors;
 use std::alloc::Global;
 use std::process::Abort;
@@ -26,7 +26,7 @@ const FILE: &[u8] = b"G28\nG1 X5\nG1 X10\nG1 X15\nG1 X20\nG1 X25\nG1 X30\n";
 fn put_file(rt: &impl Abort, alloc: Global) -> Request {
     Request::PutFile {
         name: Name::from_text("a.gcode").expect(rt, "a long name"),
-        bytes: Blob::from_slice(alloc, FILE).expect(rt, "no memory"),
+        file: Upload::read(alloc, FILE).expect(rt, "no memory"),
         select: true,
         print: false,
     }
@@ -35,6 +35,7 @@ fn put_file(rt: &impl Abort, alloc: Global) -> Request {
 // A host whose file is selected, and whose port is being connected.
 fn connecting(rt: &impl Abort, alloc: Global) -> Bench
     ensures fresh { IsFresh (session_of result.house) }
+    ensures plain { result.link.story.oks.lost ≡ false }
 {
     let mut bench = Bench::new(rt, alloc, 100);
     bench.ask(rt, put_file(rt, alloc));

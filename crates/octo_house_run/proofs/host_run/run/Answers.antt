@@ -15,6 +15,7 @@ use Rattle.octo_house_run.proofs.Contents.{begin_over, round_over, end_over}
 use Rattle.octo_house_run.proofs.Running.{begin_walks, walks_round, end_walks, tally_then, no_entry, over_by}
 use Rattle.octo_house_run.proofs.Rounds.{counted_round, counted_end, uses_round, uses_end, temps_round, temps_end_of}
 use Rattle.octo_house_print_proof.proofs.LineRecorded.{begin_in_step}
+use Rattle.octo_house_run.proofs.Laws.{run_laws}
 use Rattle.octo_house_run.proofs.Owning.{waits_begin, waits_look, waits_none, turns_own, waits_end}
 use Rattle.octo_house_run.proofs.Printing.{run_prints}
 use Rattle.octo_house_run.proofs.Tying.{round_ties, hung_ties}
@@ -44,7 +45,7 @@ loop-init g c =
       keeper = omega arith;
       shelf = omega arith;
       steps = begin_in_step (g.L.Link.kind c.args.link.now) past (g.L.Link.past c.args.link.now) (session_of c.args.house.now)
-          (record { down = c.requires.fresh.down; sound = c.requires.fresh.sound });
+          c.requires.fresh.down c.requires.fresh.sound c.requires.suits;
       own = λ workers. waits_begin c.args.connects c.new_reconnect-reconnect.result past c.new_reconnect-reconnect.ensures;
     }
 
@@ -124,6 +125,12 @@ returns-then-is_over-clause-contents g c =
     (round_over first before mid after c.args.house.now c.loop.house c.answer_next-asked.new.house c.take_turn-heard.new.house c.loop.moment moment
     (omega (arith, c.max-moment.ensures)) c.loop.invariant.contents c.answer_next-asked.ensures.some c.take_turn-heard.ensures.leads)
     c.close.ensures.past
+
+pub returns-then-is_over-clause-laws : goal.returns-then-is_over-clause-laws
+returns-then-is_over-clause-laws g c =
+    run_laws (g.C.Counter.past c.args.counter.now) (g.C.Counter.past c.close.new.self) (g.S.Shelf.files c.args.shelf.now)
+    (g.S.Shelf.files c.answer_next-asked.new.shelf) c.args.house.now c.take_turn-heard.new.house (returns-then-is_over-clause-history g c)
+    (returns-then-is_over-clause-contents g c)
 
 pub returns-then-is_over-clause-over : goal.returns-then-is_over-clause-over
 returns-then-is_over-clause-over g c =

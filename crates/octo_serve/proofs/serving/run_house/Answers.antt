@@ -5,6 +5,7 @@ pub returns-clause-ran : goal.returns-clause-ran
 returns-clause-ran g c = record {
   history = c.run.ensures.history;
   contents = c.run.ensures.contents;
+  laws = c.run.ensures.laws;
   over = c.run.ensures.over;
   listed = c.run.ensures.listed;
   kept = c.run.ensures.kept;

@@ -1,4 +1,4 @@
-use Rattle.std.proofs.Common.{of_calls, List, ap, subst}
+use Rattle.std.proofs.Common.{of_calls, rules, List, ap, subst}
 use Rattle.octo_asks.specs.History.{History}
 use Rattle.hand_over.specs.Ends.{HouseData, WorkerData}
 use Rattle.hand_over.specs.Views.{AreCalls}
@@ -20,4 +20,4 @@ returns-clause-ok g c =
 
 pub returns-clause-own : goal.returns-clause-own
 returns-clause-own g c =
-    own_from_nothing _ _ _ _ (ap (λ (h : HouseData). h.view.history) c.in_ok-counter.ensures.house) c.end.ensures.history (search of_calls)
+    own_from_nothing c.args.connects _ _ c.end.result.history (search rules) (search rules) c.four_beside-doors_held.ensures.work.met.1.1.0

@@ -53,20 +53,20 @@ returns-then-is_free-clause-rest g c =
       shelf = uncounted (is_shelfs c.free.result) (g.S.Shelf.faults c.args.shelf.now) c.free.ensures.plain.shelf;
     }
 
-pub returns-clause-denied : goal.returns-clause-denied
-returns-clause-denied g c = λ files permission.
+pub returns-in-Err-clause-denied : goal.returns-in-Err-clause-denied
+returns-in-Err-clause-denied g c = λ files permission.
     gives-denial c.in-Err.answer (verdict c.args.ask files (known_of c.args.self.now)) permission (c.in-Err.ensures.gave files)
 
-pub returns-clause-untouched : goal.returns-clause-untouched
-returns-clause-untouched g c = λ on. record { keeper = refl; shelf = refl; known = refl; session = refl; tables = refl }
+pub returns-in-Err-clause-untouched : goal.returns-in-Err-clause-untouched
+returns-in-Err-clause-untouched g c = λ on. record { keeper = refl; shelf = refl; known = refl; session = refl; tables = refl }
 
-pub returns-clause-done : goal.returns-clause-done
-returns-clause-done g c = λ files asked.
+pub returns-in-Err-clause-done : goal.returns-in-Err-clause-done
+returns-in-Err-clause-done g c = λ files asked.
     let k = known_of c.args.self.now in
     gives-done c.in-Err.answer (verdict c.args.ask files k) k (c.in-Err.ensures.gave files)
 
-pub returns-clause-files : goal.returns-clause-files
-returns-clause-files g c = λ files at.
+pub returns-in-Err-clause-files : goal.returns-in-Err-clause-files
+returns-in-Err-clause-files g c = λ files at.
     at ∙ ap (λ (held : List ShelfFile). Some held)
     (gives-files c.in-Err.answer (verdict c.args.ask files (known_of c.args.self.now)) files (c.in-Err.ensures.gave files))
 
@@ -111,8 +111,8 @@ returns-then-is_free-clause-some g c =
     let free = sym c.is_free.ensures ∙ c.if-is_free.true in
     ([], free-done c.args.ask (known_of c.args.self.now) free [] c.free.result (known_of c.free.new.self) c.free.ensures.done)
 
-pub returns-clause-some : goal.returns-clause-some
-returns-clause-some g c =
+pub returns-in-Err-clause-some : goal.returns-in-Err-clause-some
+returns-in-Err-clause-some g c =
     let k = known_of c.args.self.now in
     ([], gives-done c.in-Err.answer (verdict c.args.ask [] k) k (c.in-Err.ensures.gave []))
 

@@ -1,6 +1,7 @@
-use Rattle.std.proofs.Common.{◌≡◌, true, false, refl, sym, ap, ◌∙◌, rules, arith}
+use Rattle.std.proofs.Common.{◌≡◌, ℕ, true, false, List, option_map, refl, sym, ap, ◌∙◌, rules, arith}
 use Rattle.std.proofs.lemmas.Bool.{not-true, not-false}
 use Rattle.octo_asks.specs.declared.answer.Answer.TheVariants as answer
+use Rattle.octo_keeper.specs.Files.{with_file}
 use Rattle.octo_house_rules.specs.Uploads.{is_selected, is_printed, unprinted}
 use Rattle.octo_house_tables.proofs.Keeping.{keeps-same}
 use Rattle.octo_session.specs.Data.{SessionData}
@@ -26,13 +27,13 @@ invariant_of-self g c =
 
 pub returns-in-Err-store-clause-done : goal.returns-in-Err-store-clause-done
 returns-in-Err-store-clause-done g c =
-    not-stored c.args.user.now c.args.name.now c.args.bytes.now c.args.asked.select c.args.asked.print (known_of c.args.self.now) c.in-Ok.job
+    not-stored c.args.user.now c.args.name.now c.args.file c.args.asked.select c.args.asked.print (known_of c.args.self.now) c.in-Ok.job
     (job-is _ c.in-Ok.job c.in-Ok.ensures.exact) c.in-Err-store.answer (known_of c.store.new.self) c.in-Err-store.ensures.stored.why
     c.in-Err-store.ensures.stored.known
 
 pub returns-in-Err-store-clause-files : goal.returns-in-Err-store-clause-files
 returns-in-Err-store-clause-files g c =
-    not-shelved c.args.user.now c.args.name.now c.args.bytes.now c.args.asked.select c.args.asked.print (known_of c.args.self.now) c.in-Ok.job
+    not-shelved c.args.user.now c.args.name.now c.args.file c.args.asked.select c.args.asked.print (known_of c.args.self.now) c.in-Ok.job
     (job-is _ c.in-Ok.job c.in-Ok.ensures.exact) c.in-Err-store.answer _ _ c.in-Err-store.ensures.stored.why c.in-Err-store.ensures.same
 
 pub returns-in-Err-store-clause-rest : goal.returns-in-Err-store-clause-rest
@@ -48,14 +49,15 @@ pub returns-then-not-wanted-clause-done : goal.returns-then-not-wanted-clause-do
 returns-then-not-wanted-clause-done g c =
     let m = known_of c.store.new.self in
     let off : is_selected c.args.user.now c.args.asked.select c.args.asked.print m ≡ false = sym c.wanted-wanted.ensures.select ∙ not-true c.wanted-wanted.result.select c.if-not-wanted.true in
-    done-alone c.args.user.now c.args.name.now c.args.bytes.now c.args.asked.select c.args.asked.print (known_of c.args.self.now) c.in-Ok.job
+    done-alone c.args.user.now c.args.name.now c.args.file c.args.asked.select c.args.asked.print (known_of c.args.self.now) c.in-Ok.job
     (job-is _ c.in-Ok.job c.in-Ok.ensures.exact) _ m c.in_default.ensures.stored.allowed c.in_default.ensures.stored.known off
     (c.unprinted.ensures ∙ ap (unprinted c.args.name.now false) (c.refusal_of-refusal.ensures c.args.name.now c.wanted-wanted.ensures.select (c.wanted-wanted.ensures.print c.args.name.now)))
 
 pub returns-then-not-wanted-clause-files : goal.returns-then-not-wanted-clause-files
 returns-then-not-wanted-clause-files g c =
-    shelved c.args.user.now c.args.name.now c.args.bytes.now c.args.asked.select c.args.asked.print (known_of c.args.self.now) c.in-Ok.job
-    (job-is _ c.in-Ok.job c.in-Ok.ensures.exact) c.unprinted.result _ _ c.in_default.ensures.stored.allowed (plain-unprinted _ _ _ _ c.unprinted.ensures) c.in_default.ensures.files
+    shelved c.args.user.now c.args.name.now c.args.file c.args.asked.select c.args.asked.print (known_of c.args.self.now) c.in-Ok.job
+    (job-is _ c.in-Ok.job c.in-Ok.ensures.exact) c.unprinted.result _ _ c.in_default.ensures.stored.allowed (plain-unprinted _ _ _ _ c.unprinted.ensures)
+    (c.in_default.ensures.files ∙ ap (λ (bytes : List ℕ). option_map (with_file c.args.name.now bytes) (g.S.Shelf.files c.args.shelf.now)) c.in-Ok.ensures.bytes)
 
 pub returns-then-not-wanted-clause-rest : goal.returns-then-not-wanted-clause-rest
 returns-then-not-wanted-clause-rest g c = record {
@@ -73,15 +75,15 @@ returns-then-not-wanted-2-clause-done g c =
     let on : is_selected c.args.user.now c.args.asked.select c.args.asked.print m ≡ true = sym c.wanted-wanted.ensures.select ∙ not-false c.wanted-wanted.result.select c.if-not-wanted.false in
     let off : is_printed c.args.user.now c.args.asked.print (named_file name c.in-Ok.job) m ≡ false =
     sym (c.wanted-wanted.ensures.print name) ∙ not-true c.wanted-wanted.result.print c.if-not-wanted-2.true in
-    done-selected c.args.user.now name c.args.bytes.now c.args.asked.select c.args.asked.print (known_of c.args.self.now) c.in-Ok.job
+    done-selected c.args.user.now name c.args.file c.args.asked.select c.args.asked.print (known_of c.args.self.now) c.in-Ok.job
     (job-is _ c.in-Ok.job c.in-Ok.ensures.exact) _ m _ c.in_default.ensures.stored.allowed c.in_default.ensures.stored.known on off
     (ap (λ (s : SessionData). record m { desk = s.desk }) c.select.ensures.after) (c.unprinted-then-not-wanted-2.ensures ∙ ap (unprinted name true) (c.refusal_of-refusal.ensures name c.wanted-wanted.ensures.select (c.wanted-wanted.ensures.print name)))
 
 pub returns-then-not-wanted-2-clause-files : goal.returns-then-not-wanted-2-clause-files
 returns-then-not-wanted-2-clause-files g c =
-    shelved c.args.user.now c.args.name.now c.args.bytes.now c.args.asked.select c.args.asked.print (known_of c.args.self.now) c.in-Ok.job
+    shelved c.args.user.now c.args.name.now c.args.file c.args.asked.select c.args.asked.print (known_of c.args.self.now) c.in-Ok.job
     (job-is _ c.in-Ok.job c.in-Ok.ensures.exact) c.unprinted-then-not-wanted-2.result _ _ c.in_default.ensures.stored.allowed (plain-unprinted _ _ _ _ c.unprinted-then-not-wanted-2.ensures)
-    c.in_default.ensures.files
+    (c.in_default.ensures.files ∙ ap (λ (bytes : List ℕ). option_map (with_file c.args.name.now bytes) (g.S.Shelf.files c.args.shelf.now)) c.in-Ok.ensures.bytes)
 
 pub returns-then-not-wanted-2-clause-rest : goal.returns-then-not-wanted-2-clause-rest
 returns-then-not-wanted-2-clause-rest g c = record {
@@ -113,16 +115,16 @@ returns-clause-done g c =
     let starting : is_printed c.args.user.now c.args.asked.print (named_file name c.in-Ok.job) m ≡ true =
     sym (c.wanted-wanted.ensures.print name) ∙ not-false c.wanted-wanted.result.print c.if-not-wanted-2.false in
     let after = ap (λ (s : SessionData). record m { desk = s.desk }) c.select.ensures.after in
-    done-printed c.args.user.now name c.args.bytes.now c.args.asked.select c.args.asked.print (known_of c.args.self.now) c.in-Ok.job
+    done-printed c.args.user.now name c.args.file c.args.asked.select c.args.asked.print (known_of c.args.self.now) c.in-Ok.job
     (job-is _ c.in-Ok.job c.in-Ok.ensures.exact) m mid (known_of c.print_stored.new.self) c.print_stored.result
     c.in_default.ensures.stored.allowed c.in_default.ensures.stored.known on starting after
     (has-it c.args.user.now c.args.asked.print name c.in-Ok.job m mid starting after) c.print_stored.ensures.plain c.print_stored.ensures.done
 
 pub returns-clause-files : goal.returns-clause-files
 returns-clause-files g c =
-    shelved c.args.user.now c.args.name.now c.args.bytes.now c.args.asked.select c.args.asked.print (known_of c.args.self.now) c.in-Ok.job
+    shelved c.args.user.now c.args.name.now c.args.file c.args.asked.select c.args.asked.print (known_of c.args.self.now) c.in-Ok.job
     (job-is _ c.in-Ok.job c.in-Ok.ensures.exact) c.print_stored.result _ _ c.in_default.ensures.stored.allowed c.print_stored.ensures.plain
-    c.in_default.ensures.files
+    (c.in_default.ensures.files ∙ ap (λ (bytes : List ℕ). option_map (with_file c.args.name.now bytes) (g.S.Shelf.files c.args.shelf.now)) c.in-Ok.ensures.bytes)
 
 pub returns-clause-rest : goal.returns-clause-rest
 returns-clause-rest g c = record {

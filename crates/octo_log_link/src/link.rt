@@ -1,46 +1,47 @@
 //! The link of a host, whose calls are logged.
-ghost use Rattle.std.specs.Prelude.{◌≡◌, ◌&&◌, Bool, true, false, not, is_ok};
-ghost use Rattle.marlin_reply.specs.Kind.{kind_of};
-ghost use Rattle.octo_log.specs.Lines.{error_line, loss_if, ready_after, ready_line, reply_line, restart_line};
-ghost use Rattle.octo_log.specs.Logged.{Logs};
+ghost use Rattle.std.specs.Prelude.{◌≡◌, false};
 
-use crate::line::log_line;
-use crate::words::{asks_again, dial_words, has_no_link, said_words};
+use crate::words::{PortText, dial_words, has_no_link, short_port};
 use byte_text::{Line, ReplyLine};
-use marlin_reply::{Reply, read_reply};
+use octo_log::log_line;
 use octo_outside::Sink;
 use printer_link::{Heard, Link, LinkFault};
+use printer_link_cause::WatchedLink;
 
-/// A link with a log: a line says that it was made or couldn't be, once until one is; that it failed, or that it was closed; that the
-/// printer is ready, which is its first `ok`, or has restarted since; and which errors it reports, but for those that ask for a line
-/// again.
+/// A link with a log: a line says that it was made, or couldn't be and why, once until one is; that it failed and why, or that it was
+/// closed; that the printer is ready, which is its first `ok`, or has restarted since; and which errors it reports, but for those that
+/// ask for a line again.
 #[derive(Drop)]
-pub struct LoggedLink<L: Link + Drop, G: Sink + Drop> {
-    link: L,
-    log: G,
+pub struct LoggedLink<L: Link + WatchedLink + Drop, G: Sink + Drop> {
+    pub(crate) link: L,
+    pub(crate) log: G,
     // Whether the last call left it up.
-    is_up: bool,
-    // Whether the last call that was to make it found no link.
-    has_no_link: bool,
+    pub(crate) is_up: bool,
+    // Whether the last call left it up and still being made.
+    pub(crate) is_pending: bool,
+    // The port of the last call that was to make it.
+    pub(crate) port: PortText,
+    // Whether that call, or a later one, found that there is no link to the port.
+    pub(crate) has_no_link: bool,
     // Whether the printer has said `ok` since the link was made.
-    is_ready: bool,
+    pub(crate) is_ready: bool,
 }
 
-impl<L: Link + Drop, G: Sink + Drop> LoggedLink<L, G> {
+impl<L: Link + WatchedLink + Drop, G: Sink + Drop> LoggedLink<L, G> {
     /// A link that is down, with its log.
     pub fn new(link: L, log: G) -> Self
-        ensures { result ≡ record {
-          link = link;
-          log = log;
-          is_up = false;
-          has_no_link = false;
-          is_ready = false;
-        } }
+        ensures link { result.link ≡ link }
+        ensures log { result.log ≡ log }
+        ensures down { (result.is_up ≡ false) × (result.is_pending ≡ false) }
+        ensures no_link { result.has_no_link ≡ false }
+        ensures ready { result.is_ready ≡ false }
     {
         LoggedLink {
             link,
             log,
             is_up: false,
+            is_pending: false,
+            port: PortText::new(),
             has_no_link: false,
             is_ready: false,
         }
@@ -52,96 +53,17 @@ impl<L: Link + Drop, G: Sink + Drop> LoggedLink<L, G> {
     {
         &self.log
     }
-
-    // Logs a call that failed, after which the link is down.
-    fn log_loss(&mut self, failed: bool)
-        ensures link { self.new.link ≡ self.old.link }
-        ensures logged { Logs (loss_if failed) (G.written self.old.log) (G.written self.new.log)
-            (G.faults self.old.log) (G.faults self.new.log) }
-        ensures open_flag { self.new.is_up ≡ (self.old.is_up && not failed) }
-        ensures no_link { self.new.has_no_link ≡ self.old.has_no_link }
-        ensures ready { self.new.is_ready ≡ self.old.is_ready }
-    {
-        if failed {
-            self.is_up = false;
-            log_line(&mut self.log, b"printer: the link failed");
-        }
-    }
-
-    // Logs what a reply says.
-    fn log_reply(&mut self, text: &[u8])
-        ensures link { self.new.link ≡ self.old.link }
-        ensures logged { Logs (reply_line self.old.is_ready text.now (kind_of text.now))
-            (G.written self.old.log) (G.written self.new.log)
-            (G.faults self.old.log) (G.faults self.new.log) }
-        ensures open_flag { self.new.is_up ≡ self.old.is_up }
-        ensures no_link { self.new.has_no_link ≡ self.old.has_no_link }
-        ensures ready { self.new.is_ready ≡ ready_after self.old.is_ready (kind_of text.now) }
-    {
-        match read_reply(text) {
-            Reply::Ok { .. } => self.log_ready(),
-            Reply::Start => self.log_restart(),
-            Reply::Error => self.log_error(text),
-            _ => {}
-        }
-    }
-
-    // Logs a `start` that comes after the first `ok`.
-    fn log_restart(&mut self)
-        ensures link { self.new.link ≡ self.old.link }
-        ensures logged { Logs (restart_line self.old.is_ready)
-            (G.written self.old.log) (G.written self.new.log)
-            (G.faults self.old.log) (G.faults self.new.log) }
-        ensures open_flag { self.new.is_up ≡ self.old.is_up }
-        ensures no_link { self.new.has_no_link ≡ self.old.has_no_link }
-        ensures ready { self.new.is_ready ≡ self.old.is_ready }
-    {
-        if self.is_ready {
-            log_line(&mut self.log, b"printer: it has restarted");
-        }
-    }
-
-    // Logs an error, unless it asks for a line again.
-    fn log_error(&mut self, text: &[u8])
-        ensures link { self.new.link ≡ self.old.link }
-        ensures logged { Logs (error_line text.now)
-            (G.written self.old.log) (G.written self.new.log)
-            (G.faults self.old.log) (G.faults self.new.log) }
-        ensures open_flag { self.new.is_up ≡ self.old.is_up }
-        ensures no_link { self.new.has_no_link ≡ self.old.has_no_link }
-        ensures ready { self.new.is_ready ≡ self.old.is_ready }
-    {
-        if !asks_again(text) {
-            log_line(&mut self.log, said_words(text).as_slice());
-        }
-    }
-
-    // Logs the first `ok`.
-    fn log_ready(&mut self)
-        ensures link { self.new.link ≡ self.old.link }
-        ensures logged { Logs (ready_line self.old.is_ready)
-            (G.written self.old.log) (G.written self.new.log)
-            (G.faults self.old.log) (G.faults self.new.log) }
-        ensures open_flag { self.new.is_up ≡ self.old.is_up }
-        ensures no_link { self.new.has_no_link ≡ self.old.has_no_link }
-        ensures ready { self.new.is_ready ≡ true }
-    {
-        if !self.is_ready {
-            self.is_ready = true;
-            log_line(&mut self.log, b"printer: ready");
-        }
-    }
 }
 
-impl<L: Link + Drop, G: Sink + Drop> Link for LoggedLink<L, G> {
-    ghost use Rattle.std.specs.Prelude.{◌≡◌, ◌≤◌, ◌↔◌, ◌&&◌, ℕ, true, false, [], ◌∷◌, length, is_ok, is_err, IfOk, OnOk, OnErr, IsErr, IsErrOf};
+impl<L: Link + WatchedLink + Drop, G: Sink + Drop> Link for LoggedLink<L, G> {
+    ghost use Rattle.std.specs.Prelude.{◌≡◌, ◌≤◌, ◌↔◌, ◌&&◌, ◌++◌, ℕ, true, false, not, if◌then◌else◌, [], ◌∷◌, length, is_ok, is_err, IfOk, OnOk, OnErr, IsErr, IsErrOf};
     ghost use Rattle.byte_text.specs.declared.texts.TheConstants.{MOST_LINE_BYTES};
     ghost use Rattle.octo_outside.specs.Recorded.{Counts};
     ghost use Rattle.printer_link.specs.Link.{HasSlots, Grows, IsOpenAs, IsNothing, IsRuns, IsDial, IsSend, IsSendLoss, IsHeard, IsSilence, IsLoss, IsHangUp, IsSendOf, counted_one, dial_events, recv_events};
     ghost use Rattle.printer_model.specs.declared.event.WorldEvent.{WorldEvent};
     ghost use Rattle.printer_link.specs.declared.link.Heard.TheVariants as heard;
     ghost use Rattle.printer_link.specs.declared.link.LinkFault.TheVariants as fault;
-    ghost use Rattle.octo_log.specs.Lines.{dial_line, has_no_link, loss_if, recv_line, recv_ready, hang_up_line};
+    ghost use Rattle.octo_log_link.specs.Lines.{dial_line, has_no_link, heard_line, link_line, no_link_after, recv_ready, hang_up_line, short};
     ghost use Rattle.octo_log.specs.Logged.{Logs};
 
     ghost past = { λ l. L.past l.link };
@@ -184,20 +106,30 @@ impl<L: Link + Drop, G: Sink + Drop> Link for LoggedLink<L, G> {
             (L.faults self.old.link) (L.faults self.new.link) }
 
         // The line of the log.
-        ensures logged { Logs (dial_line self.old.has_no_link name.now result)
+        ensures logged { Logs (dial_line self.new.is_pending self.old.has_no_link
+            name.now (L.cause self.new.link) result)
             (G.written self.old.log) (G.written self.new.log)
             (G.faults self.old.log) (G.faults self.new.log) }
         ensures open_flag { self.new.is_up ≡ is_ok result }
-        ensures no_link { self.new.has_no_link ≡ has_no_link result }
+        ensures pending { self.new.is_pending ≡ (is_ok result && L.pending self.new.link) }
+        ensures port { self.new.port.items ≡ short name.now }
+        ensures no_link { self.new.has_no_link ≡ (if self.new.is_pending
+            then self.old.has_no_link else has_no_link result) }
         ensures ready { self.new.is_ready ≡ false }
     {
         let made = self.link.dial(name);
         let had_no_link = self.has_no_link;
         self.is_up = made.is_ok();
-        self.has_no_link = has_no_link(&made);
+        self.is_pending = self.is_up && self.link.is_pending();
+        self.port = short_port(name);
         self.is_ready = false;
+        if self.is_pending {
+            return made;
+        }
+        self.has_no_link = has_no_link(&made);
         if !(had_no_link && self.has_no_link) {
-            log_line(&mut self.log, dial_words(name, &made).as_slice());
+            let words = dial_words(name, self.link.cause(), &made);
+            log_line(&mut self.log, words.as_slice());
         }
         made
     }
@@ -229,16 +161,21 @@ impl<L: Link + Drop, G: Sink + Drop> Link for LoggedLink<L, G> {
         ensures counts { Counts (IsErr result)
             (L.faults self.old.link) (L.faults self.new.link) }
 
-        // The line of the log, if the link failed.
-        ensures logged { Logs (loss_if (is_err result))
+        // The line of the log, if the link is made or failed.
+        ensures logged { Logs (link_line self.old.is_pending self.old.has_no_link
+            self.old.port.items (L.pending self.new.link) (L.cause self.new.link) (is_err result))
             (G.written self.old.log) (G.written self.new.log)
             (G.faults self.old.log) (G.faults self.new.log) }
-        ensures open_flag { self.new.is_up ≡ (self.old.is_up && is_ok result) }
-        ensures no_link { self.new.has_no_link ≡ self.old.has_no_link }
+        ensures open_flag { self.new.is_up ≡ (self.old.is_up && not (is_err result)) }
+        ensures pending { self.new.is_pending
+            ≡ (self.old.is_pending && L.pending self.new.link && not (is_err result)) }
+        ensures port { self.new.port ≡ self.old.port }
+        ensures no_link { self.new.has_no_link ≡ no_link_after self.old.is_pending
+            self.old.has_no_link (L.pending self.new.link) (is_err result) }
         ensures ready { self.new.is_ready ≡ self.old.is_ready }
     {
         let sent = self.link.send(line);
-        self.log_loss(sent.is_err());
+        self.log_call(sent.is_err());
         sent
     }
 
@@ -271,20 +208,23 @@ impl<L: Link + Drop, G: Sink + Drop> Link for LoggedLink<L, G> {
         ensures counts { Counts (IsErr result)
             (L.faults self.old.link) (L.faults self.new.link) }
 
-        // The line of the log.
-        ensures logged { Logs (recv_line self.old.is_ready into.new.items result)
+        // The lines of the log: what the call shows of the link, and what was received.
+        ensures logged { Logs (link_line self.old.is_pending self.old.has_no_link
+            self.old.port.items (L.pending self.new.link) (L.cause self.new.link) (is_err result)
+            ++ heard_line self.old.is_ready into.new.items result)
             (G.written self.old.log) (G.written self.new.log)
             (G.faults self.old.log) (G.faults self.new.log) }
-        ensures open_flag { self.new.is_up ≡ (self.old.is_up && is_ok result) }
-        ensures no_link { self.new.has_no_link ≡ self.old.has_no_link }
+        ensures open_flag { self.new.is_up ≡ (self.old.is_up && not (is_err result)) }
+        ensures pending { self.new.is_pending
+            ≡ (self.old.is_pending && L.pending self.new.link && not (is_err result)) }
+        ensures port { self.new.port ≡ self.old.port }
+        ensures no_link { self.new.has_no_link ≡ no_link_after self.old.is_pending
+            self.old.has_no_link (L.pending self.new.link) (is_err result) }
         ensures ready { self.new.is_ready ≡ recv_ready self.old.is_ready into.new.items result }
     {
         let heard = self.link.recv(into);
-        match heard {
-            Ok(Heard::Line) => self.log_reply(into.as_slice()),
-            Ok(Heard::Nothing) => {}
-            Err(_) => self.log_loss(true),
-        }
+        self.log_call(heard.is_err());
+        self.log_heard(into.as_slice(), &heard);
         heard
     }
 
@@ -297,15 +237,17 @@ impl<L: Link + Drop, G: Sink + Drop> Link for LoggedLink<L, G> {
         ensures faults { L.faults self.new.link ≡ L.faults self.old.link }
 
         // The line of the log, if a link was made.
-        ensures logged { Logs (hang_up_line self.old.is_up) (G.written self.old.log)
-            (G.written self.new.log) (G.faults self.old.log) (G.faults self.new.log) }
-        ensures open_flag { self.new.is_up ≡ false }
+        ensures logged { Logs (hang_up_line (self.old.is_up && not self.old.is_pending))
+            (G.written self.old.log) (G.written self.new.log)
+            (G.faults self.old.log) (G.faults self.new.log) }
+        ensures open_flag { (self.new.is_up ≡ false) × (self.new.is_pending ≡ false) }
         ensures no_link { self.new.has_no_link ≡ self.old.has_no_link }
     {
         self.link.hang_up();
-        let was_up = self.is_up;
+        let was_made = self.is_up && !self.is_pending;
         self.is_up = false;
-        if was_up {
+        self.is_pending = false;
+        if was_made {
             log_line(&mut self.log, b"printer: disconnected");
         }
     }
