@@ -37,6 +37,8 @@ class Peer:
     def __init__(self, answers):
         self.answers = answers
         self.lines = 0
+        # When each line had come.
+        self.moments = []
         self.listener = socket.create_server(("127.0.0.1", 0))
         self.port = self.listener.getsockname()[1]
         threading.Thread(target=self.serve, daemon=True).start()
@@ -59,6 +61,7 @@ class Peer:
                         time.sleep(pause)
                     conn.sendall(b"ok\n")
                 self.lines += 1
+                self.moments.append(time.monotonic())
 
 
 class Plain:

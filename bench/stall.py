@@ -37,8 +37,36 @@ class Callers:
         self.process.wait()
 
 
+class Uploads:
+    """Some callers that store a file of 64 MiB again and again, until they are ended; each in a process of its own."""
+
+    CODE = """
+import socket, sys
+sys.path.insert(0, "scripts/lib")
+from serving import form, message
+body, kind = form([("file", sys.argv[3], (b"G1 X100 Y100 E1\\n") * 4194304)])
+text = message("POST", "/api/files/local", sys.argv[2], body, kind)
+while True:
+    with socket.create_connection(("127.0.0.1", int(sys.argv[1])), timeout=60) as conn:
+        conn.sendall(text)
+        reply = conn.recv(65536)
+        assert reply.startswith(b"HTTP/1.1 201 "), reply[:200]
+"""
+
+    def __init__(self, octo, _, count):
+        words = [sys.executable, "-c", self.CODE, str(octo.port), octo.key]
+        self.processes = [subprocess.Popen([*words, "upload-%d.gcode" % number]) for number in range(count)]
+
+    def end(self):
+        for process in self.processes:
+            if process.poll() is not None:
+                raise SystemExit("an upload was refused")
+            process.kill()
+            process.wait()
+
+
 def print_rate(octo, peer, name):
-    """Lines a second of a print, of its first seconds if it takes longer."""
+    """Lines a second of a print, of its first seconds if it takes longer, and the longest time between two of them in milliseconds."""
     content = b"".join(b"G1 X%03d Y%03d E%d\n" % (n % 200, n * 7 % 200, n % 10) for n in range(LINES))
     before, began = peer.lines, time.monotonic()
     if octo.upload(name, content, True).status != 201:
@@ -46,22 +74,27 @@ def print_rate(octo, peer, name):
     while octo.state() != "Operational" and time.monotonic() < began + SECONDS:
         time.sleep(0.05)
     rate = (peer.lines - before) / (time.monotonic() - began)
+    moments = peer.moments[before + 1 :]
     octo.post("/api/job", {"command": "cancel"})
-    return rate
+    return rate, 1000 * max(late - early for early, late in zip(moments, moments[1:]))
 
 
-def prints_beside(octo, peer, name, path, count):
-    """Lines a second of a print alone, and beside these callers, by turns."""
-    rates = {False: [], True: []}
+def prints_beside(octo, peer, name, what, count, kind=Callers):
+    """Lines a second of a print alone, and beside these callers, by turns, and the longest time between two lines."""
+    found = {False: [], True: []}
     for number in range(ROUNDS):
         for beside in (False, True):
-            callers = Callers(octo, path, count) if beside else None
-            rates[beside].append(print_rate(octo, peer, "%s%d%d.gcode" % (name, number, beside)))
+            callers = kind(octo, what, count) if beside else None
+            found[beside].append(print_rate(octo, peer, "%s%d%d.gcode" % (name, number, beside)))
             if callers:
                 callers.end()
             until("the print is over", lambda: octo.state() == "Operational", pause=0.05)
-    alone, beside = (statistics.median(rates[kind]) for kind in (False, True))
-    print("a print beside %d x GET %s: %.0f of %.0f lines a second, %.1f %% lost; load %s" % (count, path, beside, alone, 100 * (1 - beside / alone), load()), flush=True)
+    (alone, gap), (beside, gap_beside) = (map(statistics.median, zip(*found[one])) for one in (False, True))
+    print(
+        "a print beside %d x %s: %.0f of %.0f lines a second, %.1f %% lost; the longest gap %.0f and alone %.0f ms; load %s"
+        % (count, what, beside, alone, 100 * (1 - beside / alone), gap_beside, gap, load()),
+        flush=True,
+    )
 
 
 def answers_beside(octo, what, connections):
@@ -80,7 +113,7 @@ def answers_beside(octo, what, connections):
 
 
 def opened(octo, count, start):
-    """So many connections that have sent these bytes."""
+    """This number of connections that have sent these bytes."""
     connections = []
     for _ in range(count):
         connections.append(socket.create_connection(("127.0.0.1", octo.port), timeout=60))
@@ -144,6 +177,10 @@ def main():
         prints_beside(paced, peer, "file", "/api/files/local/large.gcode", 1)
         prints_beside(paced, peer, "files", "/api/files/local/large.gcode", 4)
         prints_beside(paced, peer, "list", "/api/files", 4)
+        prints_beside(paced, peer, "download", "/downloads/files/local/large.gcode", 1)
+        prints_beside(paced, peer, "downloads", "/downloads/files/local/large.gcode", 4)
+        prints_beside(paced, peer, "upload", "uploads of 64 MiB", 1, Uploads)
+        prints_beside(paced, peer, "uploads", "uploads of 64 MiB", 4, Uploads)
     finally:
         paced.kill()
 

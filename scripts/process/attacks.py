@@ -3,9 +3,11 @@
 import os
 import re
 import resource
+import select
 import socket
 import struct
 import sys
+import threading
 import time
 
 sys.path.insert(0, "scripts/lib")
@@ -17,6 +19,12 @@ MOST_HEAD, MOST_FIELDS = 16384, 64
 MOST_GROWTH = 32 << 20
 # How long all attacks may take, in seconds.
 MOST_SECONDS = 60
+# A body of more bytes is read only if its key names somebody.
+LONG = 4096
+# A longer body is refused by its head alone.
+MOST_BODY = 68_157_440
+# The most resident memory that strangers' uploads may lead to, in bytes.
+MOST_PEAK = 32 << 20
 REFUSED = {400, 404, 405, 408, 411, 413, 415, 431}
 failed = False
 
@@ -152,8 +160,21 @@ def send(port, data):
         return int(found[-1]) if found else 0
 
 
+def is_long(data):
+    """Whether a head says that its body is long: the host then asks first whom the key names."""
+    start, end, _ = data.partition(b"\r\n\r\n")
+    fields = [line.split(b":", 1) for line in start.split(b"\r\n")[1:] if b":" in line]
+    lengths = [value.strip() for name, value in fields if name.lower() == b"content-length"]
+    codings = [value.strip() for name, value in fields if name.lower() == b"transfer-encoding"]
+    if not end or len(start) + 4 > MOST_HEAD or len(fields) > MOST_FIELDS:
+        return False
+    if codings:
+        return not lengths and codings == [b"chunked"]
+    return len(set(lengths)) == 1 and re.fullmatch(rb"\d{1,18}", lengths[0]) is not None and LONG < int(lengths[0]) <= MOST_BODY
+
+
 def hostile(host):
-    """Each message is refused, or gets no reply as it isn't whole. Returns how many of them are calls of the house."""
+    """Each message is refused, or gets no reply as it isn't whole. Returns how many calls of the house they are."""
     groups = {it.__name__: list(it(host.key)) for it in (framing, control_bytes, start_lines, sizes, bodies, lines, forms, drawn)}
     count = 0
     for name, sent in groups.items():
@@ -161,11 +182,11 @@ def hostile(host):
         count += len(sent)
         check("%d messages of the kind %s are refused" % (len(sent), name), not bad, bad[:3])
     check("there were a thousand", count >= 1000, count)
-    return len(groups["lines"])
+    return len(groups["lines"]) + sum(is_long(data) for sent in groups.values() for data in sent)
 
 
 def named(host):
-    """Messages whose status is the one that the worked cases name, and what they leave in the folder. One is a call of the house."""
+    """Messages whose status is the one that the worked cases name, and what they leave in the folder. Returns how many calls they are."""
     upload = lambda name: message("POST", "/api/files/local", host.key, *form([("file", name, b"G28\n")]))  # noqa: E731
     posted = lambda *fields, body=b"": head(b"POST /api/job HTTP/1.1", *fields, body=body, key=host.key)  # noqa: E731
     long_head = b"GET /api/job HTTP/1.1\r\nX-Pad: "
@@ -188,7 +209,7 @@ def named(host):
         check("%s: status %d" % (name, wanted), found == wanted, found)
     check("it is stored as _.gcode", os.listdir(host.files) == ["_.gcode"], os.listdir(host.files))
     check("and deleted", host.ask("DELETE", "/api/files/local/_.gcode").status == 204)
-    return 1
+    return 1 + sum(is_long(data) for _, data, _ in rows)
 
 
 def holders(folder, keys):
@@ -245,6 +266,50 @@ class Counting(Host):
 def memory(host):
     found = re.search(r"VmRSS:\s+(\d+) kB", open("/proc/%d/status" % host.process.pid).read())
     return int(found[1]) * 1024
+
+
+def peak(host):
+    found = re.search(r"VmHWM:\s+(\d+) kB", open("/proc/%d/status" % host.process.pid).read())
+    return int(found[1]) * 1024
+
+
+def stranger(port, size):
+    """The reply to an upload of this size whose key names nobody, and which is sent as far as the host takes it."""
+    start = head(b"POST /api/files/local HTTP/1.1", b"Content-Length: %d" % size, key="nobody0123456789")
+    piece = b"G1 X10 Y10\n" * 6000
+    with socket.create_connection(("127.0.0.1", port), timeout=20) as conn:
+        conn.sendall(start)
+        try:
+            while size > 0 and not select.select([conn], [], [], 0)[0]:
+                size -= conn.send(piece[:size])
+        except OSError:
+            pass
+        try:
+            return conn.recv(65536)
+        except OSError:
+            return b""
+
+
+def strangers(folder):
+    """Eight uploads of 64 MiB at once by keys that name nobody are refused before the body, and take no memory."""
+    host = Host(folder, 1)
+    host.errors = os.path.join(folder, "errors")
+    host.start()
+    try:
+        replies = []
+        threads = [threading.Thread(target=lambda: replies.append(stranger(host.port, 64 << 20))) for _ in range(8)]
+        for it in threads:
+            it.start()
+        for it in threads:
+            it.join()
+        check("8 uploads of strangers are refused", all(it.startswith(b"HTTP/1.1 403 ") for it in replies), replies)
+        waits = head(b"POST /api/files/local HTTP/1.1", b"Expect: 100-continue", b"Content-Length: %d" % (64 << 20), key="")
+        check("without 100 Continue", send(host.port, waits) == 403)
+        check("their bodies aren't kept", peak(host) < MOST_PEAK, peak(host))
+        status, text = host.shut_down()
+        check("each was one call", (status, text) == (0, b"served 10 calls\n"), (status, text))
+    finally:
+        host.kill()
 
 
 def check_as_before(host, descriptors, before):
@@ -358,6 +423,7 @@ def connections(folder):
 began = time.monotonic()
 with_folder(messages)
 with_folder(connections)
+with_folder(strangers)
 with_folder(keys)
 took = time.monotonic() - began
 check("all of it within %d seconds" % MOST_SECONDS, took < MOST_SECONDS, took)

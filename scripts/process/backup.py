@@ -158,6 +158,36 @@ def cannot_trace():
     return None if run.returncode == 0 else "strace may not trace here"
 
 
+def step_of(call, host):
+    """What a traced call is to a backup, or None."""
+    part, copy = host.database + ".backup.part", host.database + ".backup"
+    if '"HTTP/1.1 204' in call:
+        return "reply"
+    if not call.endswith(" = 0"):
+        return None
+    if "sync(" in call:
+        return "sync part" if "<%s>" % part in call else "sync folder" if "<%s>" % os.path.dirname(copy) in call else None
+    return "rename" if '"%s"' % part in call and '"%s"' % copy in call else None
+
+
+def syncs(folder, host):
+    """The disk has the whole copy before the copy gets its name, and the name before the reply."""
+    why = cannot_trace()
+    if why:
+        print("skipped: the syncs of a backup: " + why, flush=True)
+        return
+    said = os.path.join(folder, "calls")
+    calls = "trace=fsync,fdatasync,?rename,renameat,renameat2,write,sendto,sendmsg"
+    tracer = subprocess.Popen(["strace", "-f", "-y", "-s", "16", "-o", said, "-e", calls, "-p", str(host.process.pid)], stderr=subprocess.PIPE)
+    # It says so once it is attached.
+    tracer.stderr.readline()
+    check("a backup whose calls are traced", backup(host), 204)
+    tracer.terminate()
+    tracer.wait()
+    found = [step for step in (step_of(line.rstrip(), host) for line in open(said, errors="replace")) if step]
+    check("its last steps", found[-4:], ["sync part", "rename", "sync folder", "reply"])
+
+
 def killed_at(host, call, number):
     """Kills the host at such a call of this number on the copy, its parts or the folder; returns whether the backup had fewer."""
     paths = [host.database + ending for ending in (".backup", ".backup.part", ".backup.part-wal", ".backup-wal")]
@@ -227,6 +257,7 @@ def main():
         try:
             users = restores(folder, host)
             refused(host)
+            syncs(folder, host)
             killed_at_each_call(folder, host, users)
             killed_by_time(folder, host, users)
             check("the end of the host", host.shut_down()[0], 0)

@@ -88,6 +88,7 @@ def main():
         used = b"turns used: 1000\n"
         missing = os.path.join(folder, "b.gcode")
         deaf = nobody()
+        halved = Peer(half_a_line)
         # The status, the standard output, and the standard error.
         rows = [
             ("an argument that isn't UTF-8", lambda: run_octo("check", b"\xff"), 2, b"octo: bad words\n", b"octo: an argument isn't UTF-8\n"),
@@ -96,9 +97,9 @@ def main():
             ("a folder as the file", lambda: octo(nobody(), folder), 4, b"source failed\n", b"octo: %s: is a directory\n" % folder.encode()),
             ("a name that is no port", lambda: octo("printer", good), 5, b"port printer is not listed\n", b"octo: printer isn't HOST:PORT, unix:PATH or tty:PATH\n"),
             ("a port that is too large", lambda: octo("printer:65536", good), 5, b"port printer:65536 is not listed\n", b"octo: printer:65536 isn't HOST:PORT, unix:PATH or tty:PATH\n"),
-            ("nobody listens", lambda: octo(deaf, good), 5, b"link failed\n", b"octo: %s: Connection refused (os error 111)\n" % deaf.encode()),
+            ("nobody listens", lambda: octo(deaf, good), 5, b"link failed\n", b"octo: %s: connection refused\n" % deaf.encode()),
             ("binary noise", lambda: octo(Peer(noise).port, good), 10, used, b""),
-            ("a peer that closes in mid-line", lambda: octo(Peer(half_a_line).port, good), 5, b"link failed\n", b""),
+            ("a peer that closes in mid-line", lambda: octo(halved.port, good), 5, b"link failed\n", b"octo: %s: closed by the printer\n" % halved.port.encode()),
             ("10 MB without a line end", lambda: octo(Peer(endless_line).port, good), 10, used, b""),
             ("a peer that never answers", lambda: octo(Peer(silence).port, good), 10, used, b""),
         ]

@@ -157,7 +157,7 @@ def tell(story, port, printer_port, count):
     link = ["printer: connected to 127.0.0.1:%d" % printer_port, "printer: ready"]
     parts = [["file my_box.gcode: stored", "print %d: begun, my_box.gcode, %d commands, for root" % (number, count),
               "print %d: done after . s" % number] for number in (1, 2)]
-    wanted = ["serving at http://127.0.0.1:%d" % port, *link, *parts[0], "printer: the link failed", *link, *parts[1]]
+    wanted = ["serving at http://127.0.0.1:%d" % port, *link, *parts[0], "printer: the link failed: closed by the printer", *link, *parts[1]]
     lines = re.sub(r" after \d+ s\n", " after . s\n", story).split("\n")[:-1]
     check("the log of the evening", lines, wanted)
     check("its length", len(lines) <= MOST_LINES, True)

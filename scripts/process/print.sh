@@ -125,8 +125,8 @@ print_row "two commands over a Unix socket" 'G28\nG1 X10\n' '4 4 - -' \
     'done: 2 commands, 0 skipped\n' 0 'N1 M110 N1\nN2 G28\nN3 G1 X10\n'
 print_row "the third line lost over a Unix socket" 'G28\nG1 X10\n' '4 4 3 -' \
     'done: 2 commands, 0 skipped\n' 0 'N1 M110 N1\nN2 G28\nN3 G1 X10\n' "--settings $work/settings.toml --turns 50000"
-usage="usage: marlin_sim ADDRESS LAST SLOTS DROP GARBLE"
-sim_row "marlin_sim without arguments" "" 2 "marlin_sim: it takes five arguments
+usage="usage: marlin_sim ADDRESS LAST SLOTS DROP GARBLE [LOST]"
+sim_row "marlin_sim without arguments" "" 2 "marlin_sim: it takes five or six arguments
 $usage"
 sim_row "marlin_sim with 17 slots" "127.0.0.1:0 0 17 - -" 2 "marlin_sim: SLOTS has to be a number from 1 to 16
 $usage"

@@ -28,7 +28,7 @@ def file_of(texts):
 
 
 FEW = commands(400)
-# So many that their print takes some seconds.
+# Their print takes some seconds.
 MANY = commands(100000)
 
 
@@ -163,7 +163,8 @@ def pulled_cable(folder):
     before = time.monotonic()
     board.end()
     said, complaint = host.communicate(timeout=LIMIT)
-    check("a pulled cable", (host.returncode, b"link failed" in said, complaint), (5, True, b""))
+    causes = [b"octo: tty:%s: %s\n" % (board.link.encode(), cause) for cause in (b"no such device", b"input/output error")]
+    check("a pulled cable", (host.returncode, b"link failed" in said, complaint in causes), (5, True, True))
     check("within a second", time.monotonic() - before < 1, True)
     first = board.once_ended(1)[0]
     check("some commands were executed, in order", first == MANY[: len(first)] and 50 < len(first) < len(MANY), True)
@@ -203,7 +204,7 @@ def bad_ports(folder):
     plain = os.path.join(folder, "plain")
     open(plain, "w").close()
     for name, port, cause in [
-        ("a path that isn't there", "tty:/no/such/device", b"the device can't be opened: No such file"),
+        ("a path that isn't there", "tty:/no/such/device", b"the device can't be opened: no such file or directory"),
         ("a regular file", "tty:" + plain, b"it is no serial device"),
         ("a folder", "tty:" + folder, b"the device can't be opened"),
         ("letters for a speed", "tty:/dev/ptmx:fast", b"the device can't be opened"),
@@ -234,7 +235,7 @@ def no_permission(folder):
         run = subprocess.run(words, capture_output=True, timeout=LIMIT)
     os.close(device)
     os.close(board)
-    found = run.returncode, b"the device can't be opened: Permission denied" in run.stderr
+    found = run.returncode, b"the device can't be opened: permission denied" in run.stderr
     check("a device without permission", found, (5, True))
 
 

@@ -35,8 +35,9 @@ def cannot_trace():
 
 
 def step_of(call, folder, name):
-    """What a line of the trace is to the file of that name, or None."""
-    part, file = folder + "/" + name + ".part", folder + "/" + name
+    """What a line of the trace is to the file of that name, or to a worker's part, or None."""
+    found = re.search(re.escape(folder) + r"/\.part-[0-3]\b", call)
+    part, file = found.group() if found else folder + "/.part-", folder + "/" + name
     verb = call.split("(")[0]
     if call.startswith("unlink") and call.endswith(" = 0"):
         # A former part or the file itself. Of a missing one nothing is removed.
@@ -74,10 +75,13 @@ def steps(trace, folder, name):
     return [step for at, step in enumerate(found) if at == 0 or step != found[at - 1] or not step.startswith("write")]
 
 
-def traced(folder, work):
-    """The steps to the file a.gcode that a host makes at this work, once it has ended."""
+def traced(folder, work, left=None):
+    """The steps to the file a.gcode that a host makes at this work, once it has ended. It begins with that part left by another one."""
     trace = os.path.join(folder, "trace")
     host = Host(folder, 9)
+    if left:
+        with open(os.path.join(host.files, left), "wb") as part:
+            part.write(b"G2")
     host.before = ["strace", "-D", "-ff", "-y", "-ttt", "-s", "16", "-o", trace, "-e", "trace=" + CALLS]
     host.start()
     try:
@@ -90,12 +94,11 @@ def traced(folder, work):
 
 
 def uploads(host):
-    """An upload, another one of that name, and one beside the part of an upload that a kill cut off."""
+    """An upload, and two more of that name."""
     check("an upload", host.upload("a.gcode", FIRST).status, 201)
     check("another one", host.upload("a.gcode", SECOND).status, 201)
-    with open(os.path.join(host.files, "a.gcode.part"), "wb") as part:
-        part.write(b"G2")
-    check("one beside a part", host.upload("a.gcode", FIRST).status, 201)
+    check("a third one", host.upload("a.gcode", FIRST).status, 201)
+    check("all that is in the folder", os.listdir(host.files), ["a.gcode"])
     path = os.path.join(host.files, "a.gcode")
     check("the file", open(path, "rb").read(), FIRST)
     check("its mode, whatever the mask", oct(os.stat(path).st_mode & 0o777), "0o640")
@@ -108,9 +111,9 @@ def main():
         print("skipped: the system's calls of an upload: " + why, flush=True)
         return
     with tempfile.TemporaryDirectory() as folder:
-        found = traced(os.path.realpath(folder), uploads)
+        found = traced(os.path.realpath(folder), uploads, ".part-2")
         # The reply to the shutdown is the last one.
-        check("their calls of the system", found, UPLOADED + UPLOADED + ["remove part"] + UPLOADED + ["reply"])
+        check("their calls of the system", found, ["remove part"] + UPLOADED * 3 + ["reply"])
     with tempfile.TemporaryDirectory() as folder:
         found = traced(os.path.realpath(folder), lambda host: (host.upload("a.gcode", FIRST), host.ask("DELETE", "/api/files/local/a.gcode")))
         check("those of a deletion", found, UPLOADED + ["remove file", "sync folder", "reply", "reply"])

@@ -1,0 +1,7 @@
+#!/bin/sh
+# `octo serve` beside slow peers: silent connections, messages that come byte by byte, and callers that hardly read their replies. A
+# caller is answered soon, and who reads slowly gets all of it. It takes a minute at most.
+set -u
+cd "$(dirname "$0")/../.." || exit 2
+scripts/build octo marlin_sim || exit 1
+exec python3 -B scripts/process/slow.py
