@@ -11,9 +11,10 @@ import tempfile
 sys.path.insert(0, "scripts/lib")
 from serving import Host, until  # noqa: E402
 
-CALLS = "open,openat,creat,write,pwrite64,writev,sendto,sendmsg,fsync,fdatasync,rename,renameat,renameat2,unlink,unlinkat"
+CALLS = "open,openat,creat,write,pwrite64,writev,sendto,sendmsg,fsync,fdatasync,link,linkat,rename,renameat,renameat2,unlink,unlinkat"
 FIRST, SECOND = b"G28\nG1 X1\n", b"G28\nG1 X2\nG1 X3\n"
 UPLOADED = ["create part", "write part", "sync part", "rename part to file", "sync folder", "reply"]
+REPLACED = [*UPLOADED[:3], "keep former file", *UPLOADED[3:5], "remove former file", "reply"]
 failed = False
 
 
@@ -36,6 +37,10 @@ def cannot_trace():
 
 def step_of(call, folder, name):
     """What a line of the trace is to the file of that name, or to a worker's part, or None."""
+    former = re.search(re.escape(folder) + r"/\.former-[0-3]\b", call)
+    if former:
+        # Of a missing one nothing is kept or removed.
+        return None if not call.endswith(" = 0") else "keep former file" if call.startswith("link") else "remove former file"
     found = re.search(re.escape(folder) + r"/\.part-[0-3]\b", call)
     part, file = found.group() if found else folder + "/.part-", folder + "/" + name
     verb = call.split("(")[0]
@@ -113,7 +118,7 @@ def main():
     with tempfile.TemporaryDirectory() as folder:
         found = traced(os.path.realpath(folder), uploads, ".part-2")
         # The reply to the shutdown is the last one.
-        check("their calls of the system", found, ["remove part"] + UPLOADED * 3 + ["reply"])
+        check("their calls of the system", found, ["remove part"] + UPLOADED + REPLACED * 2 + ["reply"])
     with tempfile.TemporaryDirectory() as folder:
         found = traced(os.path.realpath(folder), lambda host: (host.upload("a.gcode", FIRST), host.ask("DELETE", "/api/files/local/a.gcode")))
         check("those of a deletion", found, UPLOADED + ["remove file", "sync folder", "reply", "reply"])

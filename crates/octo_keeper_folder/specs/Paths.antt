@@ -8,3 +8,7 @@ path_in folder name ending = folder ++ codes "/" ++ name ++ ending
 -- the path of a stager's part in a folder
 abbrev pub part_in : List ℕ → ℕ → List ℕ
 part_in folder number = folder ++ codes "/.part-" ++ decimal number
+
+-- the path of the file that a stager's part has replaced
+abbrev pub former_in : List ℕ → ℕ → List ℕ
+former_in folder number = folder ++ codes "/.former-" ++ decimal number

@@ -5,7 +5,7 @@ ghost use Rattle.octo_access.specs.FileNames.{is_file_name};
 ghost use Rattle.octo_keeper.specs.declared.shelf.ShelfFault.TheVariants as fault;
 
 use crate::fetching::mark_of;
-use crate::paths::{PART, part_in, path_in};
+use crate::paths::{PART, former_in, part_in, path_in};
 use byte_text::Name;
 use gcode_lines::MOST_FILE_BYTES;
 use octo_access::is_file_name;
@@ -132,14 +132,23 @@ fn replace<R: Files>(rt: &R, part: &str, path: &str, bytes: &[u8]) -> io::Result
     fs::rename(rt, part, path)
 }
 
-// Renames a part that has this number of bytes, and returns whether it did.
-fn rename_part<R: Files>(rt: &R, part: &str, path: &str, size: u64) -> bool {
+// Whether a part is a regular file of this number of bytes.
+fn is_whole<R: Files>(rt: &R, part: &str, size: u64) -> bool {
     match fs::symlink_metadata(rt, part) {
-        Ok(metadata) if metadata.is_file() && metadata.len() == size => {
-            fs::rename(rt, part, path).is_ok()
-        }
-        Ok(_) | Err(_) => false,
+        Ok(metadata) => metadata.is_file() && metadata.len() == size,
+        Err(_) => false,
     }
+}
+
+// Renames a stager's part that has this number of bytes, and returns whether it did. The former file keeps a name for the stager
+// to remove: the system takes long to give back the room of a large file, and does so with its last name.
+fn rename_part<R: Files>(rt: &R, folder: &Name, number: u8, path: &str, size: u64) -> bool {
+    let part = part_in(folder, number);
+    if !is_whole(rt, part.as_str(), size) {
+        return false;
+    }
+    let _ = fs::hard_link(rt, path, former_in(folder, number).as_str());
+    fs::rename(rt, part.as_str(), path).is_ok()
 }
 
 // Writes a new file beside the former one, and renames it; a failure leaves none beside it.
@@ -163,8 +172,7 @@ fn place<R: Files>(
 ) -> Result<(), ShelfFault> {
     let path = path_in(folder, name, "");
     if let Some(number) = part {
-        let part = part_in(folder, number);
-        if rename_part(rt, part.as_str(), path.as_str(), bytes.len() as u64) {
+        if rename_part(rt, folder, number, path.as_str(), bytes.len() as u64) {
             return Ok(());
         }
     }

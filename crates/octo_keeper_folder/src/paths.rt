@@ -1,6 +1,6 @@
 //! The paths of the files on a shelf.
-ghost use Rattle.std.specs.Prelude.{◌≡◌, ◌≤◌, codes, length};
-ghost use Rattle.octo_keeper_folder.specs.Paths.{path_in, part_in};
+ghost use Rattle.std.specs.Prelude.{◌≡◌, ◌≤◌, ◌++◌, codes, decimal, length};
+ghost use Rattle.octo_keeper_folder.specs.Paths.{path_in, part_in, former_in};
 
 use arrayvec::ArrayString;
 use byte_text::Name;
@@ -25,14 +25,29 @@ pub(crate) fn path_in(folder: &Name, name: &Name, ending: &str) -> FilePath
     path
 }
 
-// The path of a stager's part in a folder.
-pub(crate) fn part_in(folder: &Name, number: u8) -> FilePath
-    ensures { result.bytes ≡ part_in folder.now number }
+// The path of a folder's file that has a name of its own and a number.
+fn numbered_in(folder: &Name, name: &str, number: u8) -> FilePath
+    requires { length name.now ≤ 9 }
+    ensures { result.bytes ≡ folder.now ++ name.now ++ decimal number }
 {
     let mut digits = Buffer::new();
     let mut path = FilePath::new();
     path.push_str(folder.as_str());
-    path.push_str("/.part-");
+    path.push_str(name);
     path.push_str(digits.format(number));
     path
+}
+
+// The path of a stager's part in a folder.
+pub(crate) fn part_in(folder: &Name, number: u8) -> FilePath
+    ensures { result.bytes ≡ part_in folder.now number }
+{
+    numbered_in(folder, "/.part-", number)
+}
+
+// The path of the file that a stager's part has replaced.
+pub(crate) fn former_in(folder: &Name, number: u8) -> FilePath
+    ensures { result.bytes ≡ former_in folder.now number }
+{
+    numbered_in(folder, "/.former-", number)
 }

@@ -12,7 +12,7 @@ use std::rt::Files;
 /// The files of a folder of the system. It doesn't record them.
 ///
 /// Its files are the regular files in it whose names are names of print files. After a put that returned `Ok` a loss of power
-/// leaves the new file whole; before, it leaves the former one, and perhaps a stager's part, or a file `NAME.part`, which is passed
+/// leaves the new file whole; before, it leaves the former one, and perhaps a stager's files, or a file `NAME.part`, which is passed
 /// over and which the next put of that name replaces. What was listed is kept until a put or a remove, so a file that another
 /// program puts into the folder isn't listed at once.
 ///
@@ -85,7 +85,7 @@ impl<R: Files + AllocGlobal + Clone + Send + Drop> Shelf for FolderShelf<R> {
     ghost use Rattle.octo_access.specs.FileNames.{is_file_name};
     ghost use Rattle.octo_keeper.specs.declared.shelf.ShelfFault.TheVariants as fault;
     ghost use Rattle.octo_keeper_folder.specs.Listed.{IsListing};
-    ghost use Rattle.octo_keeper_folder.specs.Paths.{part_in};
+    ghost use Rattle.octo_keeper_folder.specs.Paths.{part_in, former_in};
 
     type Stager = FolderStager<R>;
 
@@ -135,6 +135,8 @@ impl<R: Files + AllocGlobal + Clone + Send + Drop> Shelf for FolderShelf<R> {
         ensures number { IfOk result (λ stager. stager.number ≡ number) }
         ensures part { IfOk result (λ stager.
             stager.part.bytes ≡ part_in self.now.folder number) }
+        ensures former { IfOk result (λ stager.
+            stager.former.bytes ≡ former_in self.now.folder number) }
         ensures folder { IfOk result (λ stager. stager.folder ≡ self.now.folder) }
     {
         let files = self.rt.clone()?;

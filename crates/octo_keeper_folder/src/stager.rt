@@ -1,46 +1,49 @@
 //! What writes files beside those of a folder, and reads its files ahead.
 use crate::fetching::fetch_file;
 use crate::files::write_new;
-use crate::paths::{FilePath, part_in};
+use crate::paths::{FilePath, former_in, part_in};
 use byte_text::Name;
 use octo_keeper::{Fetched, Stager};
 use std::alloc::Global;
 use std::fs;
 use std::rt::Files;
 
-/// A stager of a folder's shelf: its part is the file `.part-N` of the folder if N is its number. No file on a shelf has such a
-/// name.
+/// A stager of a folder's shelf: its part is the file `.part-N` of the folder if N is its number, and `.former-N` the file that the
+/// part has replaced. No file on a shelf has such a name.
 ///
-/// A loss of power, or the end of the process, may leave that file. The next stager of this number removes it.
+/// A loss of power, or the end of the process, may leave these files. The next stager of this number removes them.
 #[derive(Drop)]
 pub struct FolderStager<R: Files + Drop> {
     rt: R,
     folder: Name,
     part: FilePath,
+    former: FilePath,
     number: u8,
-    // Whether the part may exist.
+    // Whether the part, or the file that it has replaced, may exist.
     is_written: bool,
 }
 
 impl<R: Files + Drop> FolderStager<R> {
     ghost use Rattle.std.specs.Prelude.{◌≡◌};
-    ghost use Rattle.octo_keeper_folder.specs.Paths.{part_in};
+    ghost use Rattle.octo_keeper_folder.specs.Paths.{part_in, former_in};
 
-    // The stager of that number in a folder; removes its part.
+    // The stager of that number in a folder; removes its files.
     pub(crate) fn new(rt: R, folder: &Name, number: u8) -> Self
         ensures number { result.number ≡ number }
         ensures part { result.part.bytes ≡ part_in folder.now number }
+        ensures former { result.former.bytes ≡ former_in folder.now number }
         ensures folder { result.folder ≡ folder.now }
     {
-        let part = part_in(folder, number);
-        let _ = fs::remove_file(&rt, part.as_str());
-        FolderStager {
+        let mut stager = FolderStager {
             rt,
             folder: folder.copy(),
-            part,
+            part: part_in(folder, number),
+            former: former_in(folder, number),
             number,
-            is_written: false,
-        }
+            is_written: true,
+        };
+        stager.clear();
+        stager
     }
 }
 
@@ -54,6 +57,7 @@ impl<R: Files + Drop> Stager for FolderStager<R> {
         ensures part { IfSome result (λ part. part ≡ self.old.number) }
         ensures stays { self.new.number ≡ self.old.number }
         ensures path { self.new.part ≡ self.old.part }
+        ensures former { self.new.former ≡ self.old.former }
         ensures folder { self.new.folder ≡ self.old.folder }
     {
         let _ = fs::remove_file(&self.rt, self.part.as_str());
@@ -67,10 +71,12 @@ impl<R: Files + Drop> Stager for FolderStager<R> {
     fn clear(&mut self)
         ensures stays { self.new.number ≡ self.old.number }
         ensures path { self.new.part ≡ self.old.part }
+        ensures former { self.new.former ≡ self.old.former }
         ensures folder { self.new.folder ≡ self.old.folder }
     {
         if self.is_written {
             let _ = fs::remove_file(&self.rt, self.part.as_str());
+            let _ = fs::remove_file(&self.rt, self.former.as_str());
             self.is_written = false;
         }
     }
@@ -80,6 +86,7 @@ impl<R: Files + Drop> Stager for FolderStager<R> {
         ensures name { IfSome result (λ fetched. fetched.name ≡ name.now) }
         ensures stays { self.new.number ≡ self.old.number }
         ensures path { self.new.part ≡ self.old.part }
+        ensures former { self.new.former ≡ self.old.former }
         ensures folder { self.new.folder ≡ self.old.folder }
     {
         fetch_file(alloc, &self.rt, &self.folder, name)

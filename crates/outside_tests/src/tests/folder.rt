@@ -190,6 +190,24 @@ fn a_part(rt: HostRuntime) -> Result<(), Fail> {
     Ok(())
 }
 
+// The file that a part replaces keeps a name that isn't listed, until the stager removes it.
+#[test]
+fn a_replaced_file(rt: HostRuntime) -> Result<(), Fail> {
+    let mut shelf = shelf(&rt, "folder_shelf_replaced")?;
+    let mut stager = shelf.stager(2)?;
+    assert_eq!(rt; puts_part(&rt, &mut shelf, b"G28 X1\n", None), Some(true));
+    assert!(rt; !fs::exists(&rt, "folder_shelf_replaced/.former-2")?);
+    let part = stager.stage(b"G28\n");
+    assert_eq!(rt; puts_part(&rt, &mut shelf, b"G28\n", part), Some(true));
+    assert!(rt; fs::exists(&rt, "folder_shelf_replaced/.former-2")?);
+    assert!(rt; listed(&rt, &mut shelf) == Some((1, 4)));
+    stager.clear();
+    assert!(rt; !fs::exists(&rt, "folder_shelf_replaced/.former-2")?);
+    assert_eq!(rt; holds(&rt, &mut shelf, "a.gcode", b"G28\n"), Some(true));
+    fs::remove_dir_all(&rt, "folder_shelf_replaced")?;
+    Ok(())
+}
+
 // Of a part of another size the bytes aren't taken. It stays until it is removed.
 #[test]
 fn a_part_of_another_size(rt: HostRuntime) -> Result<(), Fail> {
@@ -204,13 +222,15 @@ fn a_part_of_another_size(rt: HostRuntime) -> Result<(), Fail> {
     Ok(())
 }
 
-// A part that was left is removed when a stager begins, and no part is put that isn't there.
+// A part and a replaced file that were left are removed when a stager begins, and no part is put that isn't there.
 #[test]
 fn a_part_that_was_left(rt: HostRuntime) -> Result<(), Fail> {
     let mut shelf = shelf(&rt, "folder_shelf_left")?;
     fs::write(&rt, "folder_shelf_left/.part-3", "G28\n")?;
+    fs::write(&rt, "folder_shelf_left/.former-3", "G28\n")?;
     let _stager = shelf.stager(3)?;
     assert!(rt; !fs::exists(&rt, "folder_shelf_left/.part-3")?);
+    assert!(rt; !fs::exists(&rt, "folder_shelf_left/.former-3")?);
     assert_eq!(rt; puts_part(&rt, &mut shelf, b"G28\n", Some(3)), Some(true));
     fs::remove_dir_all(&rt, "folder_shelf_left")?;
     Ok(())
