@@ -1,5 +1,6 @@
 """Measures a host beside callers that ask much, or ask slowly, for bench/stall.sh, and prints each round."""
 
+import hashlib
 import os
 import socket
 import sqlite3
@@ -18,7 +19,8 @@ import serve  # noqa: E402
 from serve import Load, Peer, host, load  # noqa: E402
 from serving import until  # noqa: E402
 
-ENTRIES = 64_000
+# The limits of a host: users, entries of each, records of prints, files.
+USERS, ENTRIES, PRINTS, FILES = 1_000, 64, 100_000, 1_000
 LARGE = 64 * 1024 * 1024
 LINE = b"G1 X100 Y100 E1\n"
 # The lines of a print, and after how many seconds it is cancelled.
@@ -129,31 +131,38 @@ def asked(octo, count):
 
 
 def queue_of(octo):
-    """Puts a full queue into the database of a host that has ended: 1,000 users with 64 entries each."""
+    """Puts a full queue into the database of a host that has ended."""
     db = sqlite3.connect(octo.database)
     db.executemany(
         "INSERT INTO entries (user, name, file, priority, arrival, copies, remaining, material) VALUES (?, ?, 'a.gcode', ?, ?, 1, 1, 'any')",
-        (("user-%d" % (n % 1000), "job-%d" % n, n * 7 % 101, n + 1) for n in range(ENTRIES)),
+        (("user-%d" % (n % USERS), "job-%d" % n, n * 7 % 101, n + 1) for n in range(USERS * ENTRIES)),
     )
     db.commit()
     db.close()
 
 
+def all_else_of(octo):
+    """Puts as many users, records and files as a host may have there too."""
+    db = sqlite3.connect(octo.database)
+    db.executemany("INSERT INTO users VALUES (?, ?, 'users', 1)", (("user-%d" % n, hashlib.sha256(b"%d" % n).digest()) for n in range(USERS)))
+    db.executemany("INSERT INTO prints VALUES (?, ?, 'a.gcode', 100, 2)", ((n + 1, "user-%d" % (n % USERS)) for n in range(PRINTS)))
+    db.commit()
+    db.close()
+    for number in range(FILES):
+        open(os.path.join(octo.files, "file-%d.gcode" % number), "wb").write(LINE)
+
+
 def begins():
     octo = host("queue", 9)
     octo.shut_down()
-    times = []
-    for queued in (False, True):
-        if queued:
-            queue_of(octo)
-        began = time.monotonic()
-        try:
+    for what, fill in (("nothing", None), ("a queue of %d entries" % (USERS * ENTRIES), queue_of), ("all limits together", all_else_of)):
+        if fill:
+            fill(octo)
+        for _ in range(ROUNDS):
+            began = time.monotonic()
             octo.start()
-            times.append("%.2f s" % (time.monotonic() - began))
-        except SystemExit as fault:
-            times.append(str(fault))
-        octo.kill()
-    print("a host begins: without entries %s; with %d entries %s; load %s" % (times[0], ENTRIES, times[1], load()), flush=True)
+            print("a host begins with %s: after %.2f s; load %s" % (what, time.monotonic() - began, load()), flush=True)
+            octo.kill()
 
 
 def main():
