@@ -22,10 +22,11 @@ fn printing(rt: &impl Abort, alloc: Global, select: bool, bytes: &[u8]) -> AskLi
     asks
 }
 
-// A connect is answered and dialled, a file is stored and printed, and the run goes on until the print has ended.
+// A connect is answered and dialled, a file is stored and printed, and the run goes on until the print has ended: it takes turns at which
+// nothing is asked.
 #[test]
 fn prints_after_the_leaves(rt: HostRuntime) {
-    let mut asks = printing(&rt, rt.alloc(), false, b"G28\nG1 X5\n");
+    let mut asks = printing(&rt, rt.alloc(), false, LONG);
     leave(&rt, rt.alloc(), &mut asks);
     let ran = Ran::over(&rt, rt.alloc(), asks, &[]);
     assert_eq!(rt; ran.calls(), 22);
