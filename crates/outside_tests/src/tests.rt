@@ -2,15 +2,8 @@
 mod access;
 mod asks;
 mod bell;
-mod boot;
 mod doors;
-mod fetched;
-mod folder;
-mod keeper;
 mod last_worker;
-mod link;
-mod link_limits;
-mod log;
 mod names;
 mod outside;
 mod queue;
