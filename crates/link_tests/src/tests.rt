@@ -1,4 +1,5 @@
 //! A module for each part that is tested.
 mod boot;
 mod link;
+mod link_full;
 mod link_limits;

@@ -14,8 +14,11 @@ use std::time::Duration;
 // How many addresses of a host are tried.
 const ADDRESSES: usize = 4;
 
-// How long a read is to wait for input, in milliseconds. Many systems make it longer.
-const READ: u64 = 1;
+// How long one look at a connection waits for its peer, in milliseconds.
+const LOOK: u16 = 10;
+
+// How long a read is to wait for input, and a write for room, in milliseconds. Many systems make it longer.
+const CALL: u64 = 1;
 
 // ETIMEDOUT.
 const TIMED_OUT: u32 = 110;
@@ -65,7 +68,7 @@ pub(crate) fn begin<R: Net>(rt: &R, address: SocketAddr) -> Progress {
 
 /// Waits for the peer of a stream for about 10 milliseconds.
 pub(crate) fn look(stream: TcpStream) -> Progress {
-    wait_for_room(&stream);
+    wait_for_room(&stream, LOOK);
     match stream.take_error() {
         Ok(None) => {}
         Ok(Some(error)) => return Progress::Failed(unconnected(&error)),
@@ -78,9 +81,10 @@ pub(crate) fn look(stream: TcpStream) -> Progress {
     }
 }
 
-/// Readies a stream that is made. A read of it waits for a shorter time than a write.
+/// Readies a stream that is made. A read or a write of it waits for as short a time as the system can.
 pub(crate) fn ready<S: OpenStream>(stream: &S) -> io::Result<()> {
     prepare(stream)?;
-    let wait = Some(Duration::from_millis(READ));
-    stream.set_read_timeout(wait)
+    let wait = Some(Duration::from_millis(CALL));
+    stream.set_read_timeout(wait)?;
+    stream.set_write_timeout(wait)
 }

@@ -1,6 +1,8 @@
 //! Streams of the system to a printer.
+ghost use Rattle.std.specs.Prelude.{None};
 ghost use Rattle.printer_link_ports.specs.Ports.{of_port};
 
+use printer_link_socket::WriteNow;
 use std::io;
 use std::io::{Read, Write};
 use std::os::fd::{AsRawFd, RawFd};
@@ -38,6 +40,14 @@ impl<S: Write + Drop, T: Write + Drop> Write for PortStream<S, T> {
             PortStream::Socket(stream) => stream.flush(),
             PortStream::Tty(stream) => stream.flush(),
         }
+    }
+}
+
+impl<S: Write + Drop, T: Write + Drop> WriteNow for PortStream<S, T> {
+    ghost room = { λ _. None };
+
+    fn write_now(&mut self, bytes: &[u8]) -> io::Result<usize> {
+        self.write(bytes)
     }
 }
 

@@ -17,8 +17,11 @@ use std::rt::Files;
 // ENODEV.
 const NO_DEVICE: i32 = 19;
 
+// How long a write waits for room, in milliseconds.
+const WAIT: u16 = 1;
+
 /// A serial device that is open, locked and set. A read returns what has come, and a write that finds no room waits for
-/// about 10 milliseconds.
+/// about a millisecond.
 #[derive(Drop)]
 pub struct TtyStream<F: Drop> {
     file: F,
@@ -104,7 +107,7 @@ impl<F: Write + AsRawFd + Drop> Write for TtyStream<F> {
         let written = self.file.write(bytes);
         if let Err(error) = &written {
             if matches!(error.kind(), ErrorKind::WouldBlock) {
-                wait_for_room(&self.file);
+                wait_for_room(&self.file, WAIT);
             }
         }
         written

@@ -5,7 +5,7 @@ use Rattle.std.specs.List.{list_any, before_first, after_first}
 use Rattle.printer_link.specs.declared.link.Heard.{Heard}
 use Rattle.printer_link.specs.declared.link.Heard.TheVariants.{Line, Nothing}
 use Rattle.printer_link_socket.specs.Lines.{LinesData, ends_line, cut}
-use Rattle.printer_link_socket.specs.Sent.{Wrote}
+use Rattle.printer_link_socket.specs.Sent.{Took}
 
 -- these bytes came from a stream, if what it has left is known
 abbrev pub Came : {S : Type 0} → (S → Option (List ℕ)) → Option S → Option S → List ℕ → Type 0
@@ -24,11 +24,11 @@ Hears read came Nothing line after =
     (list_any ends_line came ≡ false)
     × (after ≡ record { begun = cut (read ++ came); waiting = []; end = None })
 
--- a receiving that found no reply waiting: the stream wrote what was unsent, and then these bytes came from it
-pub record HeardLater {S : Type 0} (contents remaining : S → Option (List ℕ)) (before after : Option S) (unsent : List ℕ)
-    (old : LinesData) (got : Heard) (line : List ℕ) (new : LinesData) : Type 0 where
+-- a receiving that found no reply waiting: the stream took some of what was unsent, and then these bytes came from it
+pub record HeardLater {S : Type 0} (contents remaining : S → Option (List ℕ)) (room : S → Option ℕ) (before after : Option S)
+    (unsent left : List ℕ) (old : LinesData) (got : Heard) (line : List ℕ) (new : LinesData) : Type 0 where
   pub written : S
   pub came : List ℕ
-  pub wrote : Wrote contents before (Some written) unsent
+  pub took : Took contents room before (Some written) unsent left
   pub comes : Came remaining (Some written) after came
   pub hears : Hears (old.begun ++ old.waiting) came got line new

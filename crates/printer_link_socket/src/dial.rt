@@ -1,7 +1,27 @@
 //! What opens streams to ports.
+ghost use Rattle.std.specs.Prelude.{◌≡◌, ℕ, Option, length, min, IfSome, MatchResult};
+ghost use Rattle.std.specs.Io.{WritesAtMost};
+ghost use Rattle.std.specs.Io.KnownBytes.{WriteAppends};
+
 use printer_link_cause::Cause;
+use std::io;
 use std::io::{Read, Write};
 use std::os::fd::AsRawFd;
+
+/// A stream that takes bytes without a long wait.
+pub trait WriteNow: Write {
+    /// How many bytes it has room for now, if that is known.
+    ghost room: { Self → Option ℕ };
+
+    /// Writes as many of the bytes, a prefix, as the stream has room for. If it has none, it waits for it as shortly as the system can,
+    /// which is a millisecond or some more, and then fails as a write that may be tried again.
+    fn write_now(&mut self, bytes: &[u8]) -> io::Result<usize>
+        ensures bound { WritesAtMost result bytes.now }
+        ensures bytes { WriteAppends (Self.contents self.old) (Self.contents self.new) result
+            bytes.now }
+        ensures fits { IfSome (room self.old)
+            (λ n. MatchResult result (λ count. count ≡ min n (length bytes.now)) (λ _. n ≡ 0)) };
+}
 
 /// A stream that was opened.
 #[derive(Drop)]
@@ -14,8 +34,8 @@ pub enum Opened<S: Drop> {
 
 /// Opens streams to ports, closes them, and reads a clock.
 pub trait Dial {
-    /// A stream to a printer. A read or a write of it waits for a bounded time.
-    type Stream: Read + Write + AsRawFd + Drop;
+    /// A stream to a printer. A read of it waits for a bounded time.
+    type Stream: Read + WriteNow + AsRawFd + Drop;
 
     /// Opens a stream to the port of that name, or says why it can't. It waits for a short time.
     fn open(&mut self, name: &str) -> Result<Opened<Self::Stream>, Cause>;

@@ -13,5 +13,5 @@ mod waiting;
 mod watched;
 
 pub use address::{Device, device_of, names_address, names_device, names_port};
-pub use dial::{Dial, Opened};
+pub use dial::{Dial, Opened, WriteNow};
 pub use link::PortLink;

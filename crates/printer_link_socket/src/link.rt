@@ -6,7 +6,7 @@ ghost use Rattle.octo_outside.specs.Recorded.{Counts};
 ghost use Rattle.printer_link_socket.specs.Address.{names_port};
 ghost use Rattle.printer_link_socket.specs.Lines.{cut, ends_line};
 ghost use Rattle.printer_link_socket.specs.declared.unsent.TheConstants.{ROOM};
-ghost use Rattle.printer_link_socket.specs.Sent.{Joins, WroteFirst};
+ghost use Rattle.printer_link_socket.specs.Sent.{HasRoom, Joins, TookFirst};
 ghost use Rattle.printer_link_socket.specs.Heard.{HeardLater};
 ghost use Rattle.printer_link_socket.specs.Waiting.{Starts, is_connecting, no_lines, waits_for};
 ghost use Rattle.printer_link.specs.declared.link.Heard.TheVariants as heard;
@@ -29,8 +29,12 @@ use printer_link_cause::Cause;
 /// nothing; what is sent waits. If it can't be made after all, such a call fails.
 ///
 /// A call of `recv` waits for some milliseconds, and a reply that comes in, or a ring of the bell, ends the wait at once. Lines that are
-/// sent are written when `recv` finds no reply that has been read, so that those of one turn go out together. It fails if that
-/// write fails, or if it finds that the peer has closed, even within a line.
+/// sent are written when `recv` finds no reply that has been read, so that those of one turn go out together. What the stream doesn't take
+/// then is tried again by the following calls. It fails if that write fails, if the stream has taken nothing for 16 seconds, or if it finds
+/// that the peer has closed, even within a line.
+///
+/// So a printer that doesn't read makes the link wait, and no call: none waits for longer than a `recv` that finds nothing, but that
+/// `hang_up` offers the last lines for up to 80 milliseconds.
 ///
 /// The wait lasts 10 milliseconds if it has an ear. Without one it is a millisecond over a serial device, and over a socket as short as
 /// the system makes a read that is to wait for a millisecond: up to 20. Then a reply costs one call of the system, and not two.
@@ -181,10 +185,12 @@ impl<D: Dial + Drop> Link for PortLink<D> {
     fn send(&mut self, line: &Line) -> Result<(), LinkFault>
         requires open { self.old.up ≡ true }
         requires short { length line.now.items ≤ MOST_LINE_BYTES }
-        ensures joined { OnOk result (Joins D.Stream.contents line.now.items
+        ensures joined { OnOk result (Joins D.Stream.contents D.Stream.room line.now.items
             self.old.line.unsent self.new.line.unsent self.old.line.stream self.new.line.stream) }
         ensures room { length self.old.line.unsent + length line.now.items + 1 ≤ ROOM
             → IsOk result }
+        ensures roomy { self.old.boot ≡ None
+            → HasRoom D.Stream.room self.old.line.stream self.old.line.unsent → IsOk result }
         ensures lines { self.new.line.lines ≡ self.old.line.lines }
 
         // While the link waits for the printer, nothing is written.
@@ -243,21 +249,23 @@ impl<D: Dial + Drop> Link for PortLink<D> {
             → (self.new.line.unsent ≡ self.old.line.unsent)
             × (self.new.line.stream ≡ self.old.line.stream) }
 
-        // If no reply waited and the call didn't fail, what was unsent was written before more was read.
+        // If no reply waited and the call didn't fail, what was unsent was offered to the stream before more was read: what it didn't take
+        // is left, and over a stream with room for all nothing is.
+        ensures took { self.old.boot ≡ None
+            → list_any ends_line self.old.line.lines.waiting ≡ false
+            → OnOk result (TookFirst D.Stream.contents D.Stream.room
+            self.old.line.stream self.old.line.unsent self.new.line.unsent) }
         ensures emptied { self.old.boot ≡ None
             → list_any ends_line self.old.line.lines.waiting ≡ false
+            → HasRoom D.Stream.room self.old.line.stream self.old.line.unsent
             → OnOk result (self.new.line.unsent ≡ []) }
-        ensures written { self.old.boot ≡ None
-            → list_any ends_line self.old.line.lines.waiting ≡ false
-            → OnOk result (WroteFirst D.Stream.contents
-            self.old.line.stream self.old.line.unsent) }
 
         // And the line, if one has ended then, is made of what had been read and what came.
         ensures later { self.old.boot ≡ None
             → list_any ends_line self.old.line.lines.waiting ≡ false → IfOk result (λ got.
-            HeardLater D.Stream.contents D.Stream.remaining
-            self.old.line.stream self.new.line.stream self.old.line.unsent self.old.line.lines
-            got into.new.items self.new.line.lines) }
+            HeardLater D.Stream.contents D.Stream.remaining D.Stream.room
+            self.old.line.stream self.new.line.stream self.old.line.unsent self.new.line.unsent
+            self.old.line.lines got into.new.items self.new.line.lines) }
 
         // And its last reading didn't find the end of the stream, as when the peer has closed.
         ensures peer { self.old.boot ≡ None
@@ -281,7 +289,8 @@ impl<D: Dial + Drop> Link for PortLink<D> {
                 }
             }
             None => {
-                if let Some(got) = self.line.hear(into) {
+                let now = self.ports.now();
+                if let Some(got) = self.line.hear(into, now) {
                     return Ok(got);
                 }
             }
@@ -289,7 +298,7 @@ impl<D: Dial + Drop> Link for PortLink<D> {
         Err(self.fail())
     }
 
-    /// Closes the link. What was sent and isn't written yet is written first, unless the printer may still be starting.
+    /// Closes the link. What was sent and isn't written yet is offered first, for up to 80 milliseconds, unless the printer may still be starting.
     fn hang_up(&mut self)
         ensures closed { self.new.line.stream ≡ None }
         ensures down { self.new.up ≡ false }
@@ -298,7 +307,7 @@ impl<D: Dial + Drop> Link for PortLink<D> {
     {
         self.up = false;
         if self.boot.is_none() {
-            let _ = self.line.write_out();
+            self.line.write_last();
         }
         self.boot = None;
         if let Some(stream) = self.line.stream.take() {

@@ -1,21 +1,18 @@
 //! Lines on their way to a stream.
-ghost use Rattle.std.specs.Prelude.{◌≡◌, ◌+◌, ◌<◌, ◌≤◌, ◌++◌, ◌∷◌, ◌↔◌, ℕ, List, [], length, take, IfOk, IsTrue, OnErr, OnOk};
+ghost use Rattle.std.specs.Prelude.{◌≡◌, ◌≢◌, ◌+◌, ◌<◌, ◌≤◌, ◌++◌, ◌∷◌, ◌↔◌, ℕ, List, [], length, min, take, drop, IfErr, IfOk, IfSome, IsOk, IsTrue, OnErr, OnOk};
 ghost use Rattle.std.specs.Io.KnownBytes.{Appends, Keeps};
 
+use crate::dial::WriteNow;
 use arrayvec::ArrayVec;
-use byte_text::{Line, append};
+use byte_text::{Line, append, bounded_text};
 use octo_outside_sockets::may_come_later;
 use printer_link_cause::{Cause, cause_of};
-use std::io::Write;
 use std::marker::Model;
 
 // Room for sixteen of the longest lines, each with its line feed.
 const ROOM: usize = 1552;
 
-// How often a write that would block is tried.
-const TRIES: u32 = 1000;
-
-/// Lines that were sent and aren't written yet, each with its line feed.
+/// Lines that were sent and aren't written yet, each with its line feed. Of the first one a part may be written.
 #[derive(Drop)]
 pub struct Unsent {
     bytes: ArrayVec<u8, ROOM>,
@@ -27,48 +24,28 @@ impl Model for Unsent {
     ghost view = { λ u. u.bytes.items };
 }
 
-// Writes 1 to all of the bytes, a prefix. Otherwise it says why the stream failed, or that it blocked for too long.
-#[tactic(auto, using(octo_outside_sockets::proofs::Written::keeps_self, octo_outside_sockets::proofs::Written::keeps_then, octo_outside_sockets::proofs::Written::keeps_appends, octo_outside_sockets::proofs::Written::appends_none))]
-fn write_some<S: Write>(stream: &mut S, bytes: &[u8]) -> Result<usize, Cause>
-    ensures some { IfOk result (λ n. 0 < n) }
+// Writes as many of the bytes, a prefix, as the stream takes now. Otherwise it says why the stream failed.
+fn write_some<S: WriteNow>(stream: &mut S, bytes: &[u8]) -> Result<usize, Cause>
     ensures bound { IfOk result (λ n. n ≤ length bytes.now) }
     ensures written { IfOk result
-        (λ n. Appends (S.Write.contents stream.old) (S.Write.contents stream.new)
-        (take n bytes.now)) }
-    ensures none { OnErr result
-        (Keeps (S.Write.contents stream.old) (S.Write.contents stream.new)) }
+        (λ n. Appends (S.contents stream.old) (S.contents stream.new) (take n bytes.now)) }
+    ensures fits { IfSome (S.room stream.old)
+        (λ room. IfOk result (λ n. n ≡ min room (length bytes.now))) }
+    ensures sure { IfSome (S.room stream.old)
+        (λ room. 0 < length bytes.now → length bytes.now ≤ room → IsOk result) }
+    ensures none { OnErr result (Keeps (S.contents stream.old) (S.contents stream.new)) }
+    ensures cause { IfErr result (λ cause. cause ≢ Cause.ReadsNothing) }
 {
-    for _ in 0..TRIES {
-        match stream.write(bytes) {
-            Ok(n) => return if n > 0 {
-                Ok(n)
-            } else {
-                Err(Cause::TakesNothing)
-            },
-            Err(error) => {
-                if !may_come_later(&error) {
-                    return Err(cause_of(&error));
-                }
+    match stream.write_now(bytes) {
+        Ok(0) => Err(Cause::TakesNothing),
+        Ok(n) => Ok(n),
+        Err(error) => {
+            if may_come_later(&error) {
+                return Ok(0);
             }
+            Err(cause_of(&error))
         }
     }
-    Err(Cause::ReadsNothing)
-}
-
-// Writes all the bytes, or says why the stream failed.
-#[tactic(auto, using(crate::proofs::Cuts::appends_start))]
-fn write_whole<S: Write>(stream: &mut S, bytes: &[u8]) -> Result<(), Cause>
-    ensures { OnOk result
-        (Appends (S.Write.contents stream.old) (S.Write.contents stream.new) bytes.now) }
-{
-    let mut done = 0;
-    while done < bytes.len() {
-        match write_some(stream, &bytes[done..]) {
-            Ok(n) => done += n,
-            Err(cause) => return Err(cause),
-        }
-    }
-    Ok(())
 }
 
 impl Unsent {
@@ -79,6 +56,13 @@ impl Unsent {
         Unsent {
             bytes: ArrayVec::new(),
         }
+    }
+
+    /// Whether nothing is unsent.
+    pub fn is_empty(&self) -> bool
+        ensures { IsTrue result ↔ (self.now ≡ []) }
+    {
+        self.bytes.is_empty()
     }
 
     /// Whether there is room for this line.
@@ -97,14 +81,38 @@ impl Unsent {
         self.bytes.push(b'\n');
     }
 
-    /// Writes all lines and forgets them. It says why the stream failed, if it did or blocked for too long.
-    pub fn write<S: Write>(&mut self, stream: &mut S) -> Result<(), Cause>
-        ensures written { OnOk result
-            (Appends (S.Write.contents stream.old) (S.Write.contents stream.new) self.old) }
-        ensures forgotten { self.new ≡ [] }
+    // Forgets the first n bytes.
+    fn forget(&mut self, n: usize)
+        requires { n ≤ length self.old }
+        ensures { self.new ≡ drop n self.old }
     {
-        let written = write_whole(stream, self.bytes.as_slice());
-        self.bytes.clear();
-        written
+        self.bytes = bounded_text(&self.bytes.as_slice()[n..]);
+    }
+
+    /// Writes as much as the stream takes now, and forgets that. Returns how many bytes that is, or why the stream failed.
+    pub fn write<S: WriteNow>(&mut self, stream: &mut S) -> Result<usize, Cause>
+        ensures written { IfOk result
+            (λ n. Appends (S.contents stream.old) (S.contents stream.new) (take n self.old)) }
+        ensures fits { IfSome (S.room stream.old)
+            (λ room. IfOk result (λ n. n ≡ min room (length self.old))) }
+        ensures left { IfOk result (λ n. self.new ≡ drop n self.old) }
+
+        // It fails only if it takes no more, or for an error; what was unsent stays.
+        ensures sure { IfSome (S.room stream.old)
+            (λ room. length self.old ≤ room → IsOk result) }
+        ensures kept { OnErr result (self.new ≡ self.old) }
+        ensures none { OnErr result (Keeps (S.contents stream.old) (S.contents stream.new)) }
+        ensures cause { IfErr result (λ cause. cause ≢ Cause.ReadsNothing) }
+    {
+        if self.bytes.is_empty() {
+            return Ok(0);
+        }
+        match write_some(stream, self.bytes.as_slice()) {
+            Ok(n) => {
+                self.forget(n);
+                Ok(n)
+            }
+            Err(cause) => Err(cause),
+        }
     }
 }

@@ -4,7 +4,7 @@ ghost use Rattle.std.specs.Prelude.{None};
 use byte_text::{Line, ReplyLine};
 use printer_link::{Heard, Link, LinkFault};
 use printer_link_cause::{Cause, WatchedLink};
-use printer_link_socket::{Dial, Opened, PortLink};
+use printer_link_socket::{Dial, Opened, PortLink, WriteNow};
 use std::io;
 use std::io::{ErrorKind, Read, Write};
 use std::os::fd::{AsRawFd, RawFd};
@@ -58,6 +58,14 @@ impl Write for Printer {
 
     fn flush(&mut self) -> io::Result<()> {
         Ok(())
+    }
+}
+
+impl WriteNow for Printer {
+    ghost room = { λ _. None };
+
+    fn write_now(&mut self, bytes: &[u8]) -> io::Result<usize> {
+        self.write(bytes)
     }
 }
 

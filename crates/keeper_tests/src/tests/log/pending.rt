@@ -7,7 +7,7 @@ use octo_log_link::LoggedLink;
 use octo_outside::MemorySink;
 use printer_link::{Heard, Link};
 use printer_link_cause::{Cause, WatchedLink};
-use printer_link_socket::{Dial, Opened, PortLink};
+use printer_link_socket::{Dial, Opened, PortLink, WriteNow};
 use std::alloc::Global;
 use std::io;
 use std::io::{ErrorKind, Read, Write};
@@ -38,6 +38,14 @@ impl Write for Silence {
 
     fn flush(&mut self) -> io::Result<()> {
         Ok(())
+    }
+}
+
+impl WriteNow for Silence {
+    ghost room = { λ _. None };
+
+    fn write_now(&mut self, bytes: &[u8]) -> io::Result<usize> {
+        self.write(bytes)
     }
 }
 
