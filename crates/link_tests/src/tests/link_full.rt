@@ -15,17 +15,23 @@ type Ports = SystemPorts<HostRuntime>;
 
 type Stream = <Ports as Dial>::Stream;
 
-// Ports that fill each stream with bytes `x` before a link has it, and whose clock runs sixteen times as fast.
+// Ports that fill each stream with bytes `x` before a link has it, and whose clock runs four times as fast.
 #[derive(Drop)]
 struct FullPorts {
     ports: Ports,
 }
 
-// Writes until the stream takes no more.
+// Writes until the stream has taken nothing at thirty tries in a row: the system may make its buffers larger at first.
 fn fill(stream: &mut Stream) {
     let filler = [b'x'; 4096];
+    let mut refused = 0;
     for _ in 0..100_000 {
-        if stream.write_now(&filler).is_err() {
+        if stream.write_now(&filler).is_ok() {
+            refused = 0;
+        } else {
+            refused += 1;
+        }
+        if refused == 30 {
             return;
         }
     }
@@ -62,7 +68,7 @@ impl Dial for FullPorts {
     }
 
     fn now(&mut self) -> u64 {
-        self.ports.now().saturating_mul(16)
+        self.ports.now().saturating_mul(4)
     }
 }
 
@@ -95,12 +101,23 @@ fn send(rt: &impl Abort, link: &mut FullLink, text: &[u8]) {
     assert!(rt; link.send(&line) == Ok(()));
 }
 
-// A call of the link, which finds nothing within 50 milliseconds.
-fn find_nothing_soon<R: Abort + Clock>(rt: &R, link: &mut FullLink) -> Result<(), Fail> {
+// A call of the link that finds nothing. Returns whether it took more than 50 milliseconds.
+fn finds_nothing_late<R: Abort + Clock>(rt: &R, link: &mut FullLink) -> Result<bool, Fail> {
     assert!(rt; link.is_up());
     let start = Instant::now(rt)?;
     assert!(rt; link.recv(&mut ReplyLine::new()) == Ok(Heard::Nothing));
-    assert!(rt; start.elapsed(rt)? < Duration::from_millis(50));
+    Ok(start.elapsed(rt)? > Duration::from_millis(50))
+}
+
+// Calls of the link that find nothing, of which on a busy machine a quarter may take more than 50 milliseconds.
+fn find_nothing<R: Abort + Clock>(rt: &R, link: &mut FullLink, calls: u32) -> Result<(), Fail> {
+    let mut late = 0;
+    for _ in 0..calls {
+        if finds_nothing_late(rt, link)? {
+            late += 1;
+        }
+    }
+    assert!(rt; late <= calls / 4);
     Ok(())
 }
 
@@ -127,19 +144,19 @@ fn full_buffer(rt: HostRuntime) -> Result<(), Fail> {
     let mut peer = dial(&rt, rt.alloc(), &mut link, &listener)?;
     for text in TEXTS {
         send(&rt, &mut link, text.as_bytes());
-        find_nothing_soon(&rt, &mut link)?;
-        find_nothing_soon(&rt, &mut link)?;
+        find_nothing(&rt, &mut link, 10)?;
     }
     let mut came = ReplyLine::new();
     for _ in 0..200 {
         read_some(&mut peer, &mut came);
-        find_nothing_soon(&rt, &mut link)?;
+        assert!(rt; link.is_up());
+        assert!(rt; link.recv(&mut ReplyLine::new()) == Ok(Heard::Nothing));
     }
     assert_eq!(rt; came.as_slice(), WANTED.as_bytes());
     Ok(())
 }
 
-// The link fails once the buffer was full for 16 seconds by its clock, which are one second.
+// The link fails once the buffer was full for 16 seconds by its clock, which are four seconds.
 #[test]
 fn given_up(rt: HostRuntime) -> Result<(), Fail> {
     let listener = TcpListener::bind(&rt, "127.0.0.1:0")?;
@@ -148,7 +165,7 @@ fn given_up(rt: HostRuntime) -> Result<(), Fail> {
     send(&rt, &mut link, b"N1 G28");
     let start = Instant::now(&rt)?;
     let mut reply = ReplyLine::new();
-    for _ in 0..2000 {
+    for _ in 0..10_000 {
         if !link.is_up() {
             break;
         }
@@ -156,7 +173,7 @@ fn given_up(rt: HostRuntime) -> Result<(), Fail> {
     }
     assert!(rt; !link.is_up());
     let gone = start.elapsed(&rt)?;
-    assert!(rt; gone >= Duration::from_millis(990) && gone < Duration::from_secs(10));
+    assert!(rt; gone >= Duration::from_millis(3990) && gone < Duration::from_secs(20));
     assert!(rt; link.cause() == Some(Cause::ReadsNothing));
     drop(peer);
     Ok(())
