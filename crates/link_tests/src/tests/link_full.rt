@@ -24,12 +24,12 @@ struct FullPorts {
 // Writes until the stream has taken nothing at thirty tries in a row: the system may make its buffers larger at first.
 fn fill(stream: &mut Stream) {
     let filler = [b'x'; 4096];
-    let mut refused = 0;
+    let mut refused: u32 = 0;
     for _ in 0..100_000 {
         if stream.write_now(&filler).is_ok() {
             refused = 0;
         } else {
-            refused += 1;
+            refused = refused.saturating_add(1);
         }
         if refused == 30 {
             return;
@@ -111,10 +111,10 @@ fn finds_nothing_late<R: Abort + Clock>(rt: &R, link: &mut FullLink) -> Result<b
 
 // Calls of the link that find nothing, of which on a busy machine a quarter may take more than 50 milliseconds.
 fn find_nothing<R: Abort + Clock>(rt: &R, link: &mut FullLink, calls: u32) -> Result<(), Fail> {
-    let mut late = 0;
+    let mut late: u32 = 0;
     for _ in 0..calls {
         if finds_nothing_late(rt, link)? {
-            late += 1;
+            late = late.saturating_add(1);
         }
     }
     assert!(rt; late <= calls / 4);
