@@ -90,7 +90,7 @@ def tell(lines, port, printer_port):
               "printer: disconnected", "print 1: failed after . s", "session ended: no answer, 5 limits",
               *connected, begun % 2, "printer: stopped by M112", "printer: disconnected", "print 2: failed after . s", "stopped"]
     # A toggle while the print is being paused is refused.
-    lines = [line for line in lines if not line.startswith("refused: 409 POST /api/job:")]
+    lines = [line for line in lines if not line.startswith("refused: 409 POST /api/job")]
     check("the lines of the log", lines, wanted)
 
 
