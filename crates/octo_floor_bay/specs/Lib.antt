@@ -1,0 +1,4 @@
+pub mod Bay
+pub mod Deeds
+pub mod Fields
+pub mod Prints
