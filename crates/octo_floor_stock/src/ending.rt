@@ -1,0 +1,24 @@
+//! The end of a print, as the keeper writes it.
+ghost use Rattle.std.specs.Prelude.{◌≡◌, ℕ, option_map, OnOk, OnErr};
+ghost use Rattle.octo_floor_rules.specs.declared.event.FloorEvent.TheVariants.{Ended};
+ghost use Rattle.octo_floor_stock.specs.Faults.{AsksKeeper};
+ghost use Rattle.octo_floor_stock.specs.Written.{written};
+
+use crate::faults::of_keeper;
+use octo_floor_rules::FloorFault;
+use octo_keeper::{Change, Keeper};
+use print_queue::Ending;
+use std::alloc::Global;
+
+/// Has the keeper write how a print ended. After a fault the tables are as they were.
+pub fn write_end<K: Keeper>(alloc: Global, keeper: &mut K, ending: Ending) -> Result<(), FloorFault>
+    ensures ok { OnOk result ((printer : ℕ)
+        → K.tables keeper.new ≡ option_map (written (Ended printer ending)) (K.tables keeper.old)) }
+    ensures err { OnErr result (K.tables keeper.new ≡ K.tables keeper.old) }
+    ensures faults { AsksKeeper result (K.faults keeper.old) (K.faults keeper.new) }
+{
+    match keeper.commit(alloc, &Change::End(ending)) {
+        Ok(()) => Ok(()),
+        Err(fault) => Err(of_keeper(fault)),
+    }
+}
