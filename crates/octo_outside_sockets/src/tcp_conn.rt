@@ -1,7 +1,8 @@
 //! Connections over TCP, and over a Unix socket.
-ghost use Rattle.std.specs.Prelude.{◌≡◌, ◌≤◌, None, IfOk, ⊤};
+ghost use Rattle.std.specs.Prelude.{◌≡◌, ◌<◌, ◌≤◌, None, length, IfOk, IsErr, OnErr, OnOk, ⊤};
 ghost use Rattle.octo_outside.specs.Memory.{one_more};
 ghost use Rattle.octo_outside.specs.Recorded.{Counts};
+ghost use Rattle.octo_outside.specs.Traits.{IsWithin, quiets_after};
 
 use crate::socket_stream::{SocketStream, unix_path};
 use crate::streams::{linger, may_come_later, prepare, write_some};
@@ -124,7 +125,17 @@ impl<R: Net + Drop> Conn for TcpConn<R> {
 
     ghost quiets = { λ c. c.quiets };
 
-    fn read(&mut self, into: &mut [u8]) -> Result<Got, Failed> {
+    fn read(&mut self, into: &mut [u8]) -> Result<Got, Failed>
+        requires { 0 < length into.old }
+        ensures bound { IfOk result (λ got. IsWithin got (length into.new)) }
+        ensures quiet { IfOk result (λ got.
+            self.new.quiets ≡ quiets_after self.old.quiets got) }
+        ensures quiet_err { OnErr result (self.new.quiets ≡ self.old.quiets) }
+        ensures quiets_counted { self.old.quiets ≤ self.new.quiets }
+        ensures counts { Counts (IsErr result) self.old.faults self.new.faults }
+        ensures one_fault { OnErr result (self.new.faults ≡ one_more self.old.faults) }
+        ensures steady { OnOk result (self.new.faults ≡ self.old.faults) }
+    {
         match self.stream.read(into) {
             Ok(0) => Ok(Got::Ended),
             Ok(n) => Ok(Got::Bytes(n)),
@@ -138,7 +149,14 @@ impl<R: Net + Drop> Conn for TcpConn<R> {
         }
     }
 
-    fn write(&mut self, bytes: &[u8]) -> Result<usize, Failed> {
+    fn write(&mut self, bytes: &[u8]) -> Result<usize, Failed>
+        requires { 0 < length bytes.now }
+        ensures some { IfOk result (λ n. (0 < n) × (n ≤ length bytes.now)) }
+        ensures quiets { self.new.quiets ≡ self.old.quiets }
+        ensures counts { Counts (IsErr result) self.old.faults self.new.faults }
+        ensures one_fault { OnErr result (self.new.faults ≡ one_more self.old.faults) }
+        ensures steady { OnOk result (self.new.faults ≡ self.old.faults) }
+    {
         match write_some(&mut self.stream, bytes) {
             Some(n) => Ok(n),
             None => Err(self.fail()),
