@@ -20,11 +20,19 @@ const WAIT: i32 = 10;
 // How many such waits a write takes at most. The pace of its peer ends it before.
 const WAITS: u32 = 1_100;
 
+// After how many bytes, read and written, a connection rests, and for how many milliseconds. A caller that reads or sends much
+// without a pause would else take the processor that the printer's thread needs.
+const PIECE: usize = 65_536;
+
+const REST: i32 = 1;
+
 /// A connection of a door over TCP. It records neither what is left nor what was written.
 ///
 /// A read waits for 10 milliseconds by the clock, and a write for 10 seconds at most. A peer may not be slow for long: for each
 /// direction there are 10 seconds for which it may keep the connection waiting in all, and each 12,800 bytes that it sends or
 /// takes add a second, up to those 10. Once they are used up, each read is quiet at once, or each write fails.
+///
+/// After each 65,536 bytes that it reads and writes it rests for a millisecond, so that the processors are free for others.
 #[derive(Drop)]
 pub struct DoorConn<R: Drop> {
     rt: R,
@@ -34,6 +42,8 @@ pub struct DoorConn<R: Drop> {
     returned: usize,
     reads: Pace,
     writes: Pace,
+    // How many bytes were read and written since the last rest.
+    moved: usize,
     faults: u64,
     quiets: u64,
 }
@@ -77,6 +87,7 @@ impl<R: Drop> DoorConn<R> {
                 Pace::new()
             },
             writes: Pace::new(),
+            moved: 0,
             faults: 0,
             quiets: 0,
         }
@@ -106,6 +117,18 @@ impl<R: Drop> DoorConn<R> {
     {
         self.faults = self.faults.saturating_add(1);
         Failed
+    }
+
+    // These bytes were read or written. After each piece it rests.
+    fn count_moved(&mut self, bytes: usize)
+        ensures faults { self.new.faults ≡ self.old.faults }
+        ensures quiets { self.new.quiets ≡ self.old.quiets }
+    {
+        self.moved = self.moved.saturating_add(bytes);
+        if self.moved >= PIECE {
+            self.moved = 0;
+            poll(&mut [], REST);
+        }
     }
 
     // A read found nothing yet.
@@ -178,6 +201,7 @@ impl<R: Clock + Drop> Conn for DoorConn<R> {
             Ok(0) => Ok(Got::Ended),
             Ok(n) => {
                 self.reads.earn(n);
+                self.count_moved(n);
                 Ok(Got::Bytes(n))
             }
             Err(error) => {
@@ -197,6 +221,7 @@ impl<R: Clock + Drop> Conn for DoorConn<R> {
         match write_some(&mut self.stream, bytes) {
             Some(n) => {
                 self.writes.earn(n);
+                self.count_moved(n);
                 Ok(n)
             }
             None => Err(self.fail()),
