@@ -1,19 +1,54 @@
 -- The lines that a sender holds are the issued ones above acked.
-use Rattle.std.proofs.Common.{◌≡◌, ℕ, ◌+◌, List, [], ◌∷◌, ◌++◌, drop, arith, refl, sym, ◌∙◌, ap, subst, append_assoc}
+use Rattle.std.proofs.Common.{◌≡◌, ℕ, ◌+◌, ◌-◌, ◌<◌, ◌≤◌, Bool, false, true, List, [], ◌∷◌, ◌++◌, drop, arith, refl, sym, ◌∙◌, ap, subst, append_assoc}
 use Rattle.std.specs.Prelude.{Option, None, Some}
 use Rattle.std.proofs.lemmas.Grind.{common_steps}
 use Rattle.std.proofs.lemmas.List.{drop-drop, drop-append-le, append-nil, length-append}
 use Rattle.marlin_reply.specs.declared.reply.Reply.{Reply}
+use Rattle.marlin_reply.specs.declared.reply.Reply.TheVariants as reply
+use Rattle.marlin_frame.specs.Numbering.{place_of}
 use Rattle.send_window.specs.declared.session_end.SessionEnd.{SessionEnd}
 use Rattle.send_window.specs.Data.{SenderData, sender_after_dial}
-use Rattle.send_window.specs.Hearing.{tick_step, heard_reply, unless_ended}
+use Rattle.send_window.specs.Hearing.{tick_step, heard_reply, heard_ok, acknowledged_to, place_ok, ok_named, ok_in, unless_ended}
 use Rattle.send_window.specs.Sending.{push_step}
 use Rattle.send_window.specs.Session.{Step, hears, ticks, issues, gives, after_step, after_steps, texts_issued, HoldsIssued}
 
-reply_holds : (heard_line : Reply) (moment : ℕ) (s : SenderData) (texts : List (List ℕ)) → HoldsIssued texts s → HoldsIssued texts (heard_reply heard_line moment s)
-reply_holds heard_line moment s texts holds =
+counted_holds : (number : Option ℕ) (moment : ℕ) (s : SenderData) (texts : List (List ℕ)) → HoldsIssued texts s → HoldsIssued texts (heard_ok s.swallow s.ready number moment s)
+counted_holds number moment s texts holds =
     let without_first : drop 1 s.held ≡ drop (s.acked + 1) texts = ap (drop 1) holds.rest ∙ drop-drop 1 s.acked texts in
     grind (arith, common_steps, without_first)
+
+-- an `ok` of an issued line above acked
+through_holds : (place moment : ℕ) (s : SenderData) (texts : List (List ℕ)) → s.acked < place → place ≤ s.issued → HoldsIssued texts s →
+    HoldsIssued texts (acknowledged_to place moment s)
+through_holds place moment s texts above within holds = record {
+  count = holds.count;
+  rest = ap (drop (place - s.acked)) holds.rest ∙ drop-drop (place - s.acked) s.acked texts ∙ ap (λ n. drop n texts) (omega (arith, above));
+  acked_issued = omega (arith, within, holds.count);
+}
+
+place_holds : (number moment : ℕ) (s : SenderData) (texts : List (List ℕ)) → HoldsIssued texts s → HoldsIssued texts (place_ok number moment s)
+place_holds number moment s texts holds =
+    let through : s.acked < place_of number → place_of number ≤ s.issued → HoldsIssued texts (acknowledged_to (place_of number) moment s) =
+    λ above within. through_holds (place_of number) moment s texts above within holds in
+    grind (arith, common_steps, through)
+
+named_holds : (ready : Bool) (number : Option ℕ) (moment : ℕ) (s : SenderData) (texts : List (List ℕ)) → HoldsIssued texts s → HoldsIssued texts (ok_named ready number moment s)
+named_holds ready None moment s texts holds = record { count = holds.count; rest = holds.rest; acked_issued = holds.acked_issued }
+named_holds false (Some number) moment s texts holds = grind (arith, common_steps)
+named_holds true (Some number) moment s texts holds = place_holds number moment s texts holds
+
+ok_holds : (by_number : Bool) (number : Option ℕ) (moment : ℕ) (s : SenderData) (texts : List (List ℕ)) → HoldsIssued texts s → HoldsIssued texts (ok_in by_number number moment s)
+ok_holds false number moment s texts holds = counted_holds number moment s texts holds
+ok_holds true number moment s texts holds = named_holds s.ready number moment s texts holds
+
+reply_holds : (heard_line : Reply) (moment : ℕ) (s : SenderData) (texts : List (List ℕ)) → HoldsIssued texts s → HoldsIssued texts (heard_reply heard_line moment s)
+reply_holds (reply.Ok number _ _ _) moment s texts holds = ok_holds s.numbered number moment s texts holds
+reply_holds (reply.Resend number) moment s texts holds = grind (arith, common_steps)
+reply_holds reply.Start moment s texts holds = grind (arith, common_steps)
+reply_holds reply.Busy moment s texts holds = grind (arith, common_steps)
+reply_holds (reply.Temps _) moment s texts holds = grind (arith, common_steps)
+reply_holds reply.Error moment s texts holds = grind (arith, common_steps)
+reply_holds reply.Other moment s texts holds = grind (arith, common_steps)
 
 unless_ended_holds : (ended : Option SessionEnd) (after s : SenderData) (texts : List (List ℕ)) → HoldsIssued texts after → HoldsIssued texts s → HoldsIssued texts (unless_ended ended after s)
 unless_ended_holds None after s texts then_holds holds = then_holds

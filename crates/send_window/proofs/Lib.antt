@@ -1,5 +1,6 @@
 pub mod Ending
 pub mod Issued
+pub mod Named
 pub mod OwnOks
 pub mod Sending
 pub mod Silence

@@ -1,24 +1,31 @@
 -- No step of a sender breaks what holds of it between its calls.
-use Rattle.std.proofs.Common.{◌≡◌, ℕ, ◌<◌, ◌≤◌, List, arith, refl, rules}
+use Rattle.std.proofs.Common.{◌≡◌, ℕ, ◌<◌, ◌≤◌, Bool, false, true, List, arith, refl, rules}
 use Rattle.std.specs.Prelude.{Option, None, Some}
 use Rattle.std.proofs.lemmas.Grind.{common_steps}
 use Rattle.marlin_reply.specs.declared.reply.Reply.{Reply}
 use Rattle.marlin_reply.specs.declared.reply.Reply.TheVariants as reply
 use Rattle.send_window.specs.declared.session_end.SessionEnd.{SessionEnd}
 use Rattle.send_window.specs.Data.{SenderData, IsSound, new_sender, sender_after_dial}
-use Rattle.send_window.specs.Hearing.{hear_step, tick_step, heard_reply, heard_ok, heard_resend, heard_start, after_hearing, after_busy, unless_ended}
+use Rattle.send_window.specs.Hearing.{hear_step, tick_step, heard_reply, heard_ok, ok_named, ok_in, heard_resend, heard_start, after_hearing, after_busy, unless_ended}
 use Rattle.send_window.specs.Sending.{last_room_of}
 use Rattle.send_window.specs.Laws.{StaysSound}
 use Rattle.send_window.specs.Session.{Step, hears, ticks, issues, gives, after_step, IsAllowed}
 
-pub new_sound : (w l : ℕ) → 1 ≤ w → w ≤ 16 → 1 ≤ l → IsSound (new_sender w l)
-new_sound w l some most span = search rules
+pub new_sound : (w l : ℕ) (by_number : Bool) → 1 ≤ w → w ≤ 16 → 1 ≤ l → IsSound (new_sender w by_number l)
+new_sound w l by_number some most span = search rules
 
 pub begun_sound : (s : SenderData) → IsSound s → IsSound (sender_after_dial s)
 begun_sound s sound = search rules
 
-ok_sound : (number : Option ℕ) (moment : ℕ) (s : SenderData) → s.ended ≡ None → IsSound s → IsSound (heard_ok s.swallow s.ready number moment s)
-ok_sound number moment s none_yet sound = grind (arith, common_steps)
+counted_sound : (number : Option ℕ) (moment : ℕ) (s : SenderData) → s.ended ≡ None → IsSound s → IsSound (heard_ok s.swallow s.ready number moment s)
+counted_sound number moment s none_yet sound = grind (arith, common_steps)
+
+named_sound : (number : Option ℕ) (moment : ℕ) (s : SenderData) → s.ended ≡ None → IsSound s → IsSound (ok_named s.ready number moment s)
+named_sound number moment s none_yet sound = grind (arith, common_steps)
+
+ok_sound : (by_number : Bool) (number : Option ℕ) (moment : ℕ) (s : SenderData) → s.ended ≡ None → IsSound s → IsSound (ok_in by_number number moment s)
+ok_sound false number moment s none_yet sound = counted_sound number moment s none_yet sound
+ok_sound true number moment s none_yet sound = named_sound number moment s none_yet sound
 
 resend_sound : (number moment : ℕ) (s : SenderData) → s.ended ≡ None → IsSound s → IsSound (heard_resend s.ready number moment s)
 resend_sound number moment s none_yet sound = grind (arith, common_steps)
@@ -33,7 +40,7 @@ busy_sound : (s : SenderData) → IsSound s → IsSound (after_busy s)
 busy_sound s sound = grind (arith, common_steps)
 
 reply_sound : (heard_line : Reply) (moment : ℕ) (s : SenderData) → s.ended ≡ None → IsSound s → IsSound (heard_reply heard_line moment s)
-reply_sound (reply.Ok number _ _ _) moment s none_yet sound = ok_sound number moment s none_yet sound
+reply_sound (reply.Ok number _ _ _) moment s none_yet sound = ok_sound s.numbered number moment s none_yet sound
 reply_sound (reply.Resend number) moment s none_yet sound = resend_sound number moment s none_yet sound
 reply_sound reply.Start moment s none_yet sound = start_sound s none_yet sound
 reply_sound reply.Busy moment s none_yet sound = busy_sound s sound

@@ -4,12 +4,14 @@ use Rattle.std.specs.Prelude.{Option, None, Some}
 use Rattle.std.proofs.lemmas.Grind.{common_steps}
 use Rattle.marlin_reply.specs.declared.reply.Reply.{Reply}
 use Rattle.marlin_reply.specs.declared.reply.Reply.TheVariants as reply
+use Rattle.marlin_reply.specs.declared.reply.Temps.{Temps}
 use Rattle.send_window.specs.declared.session_end.SessionEnd.{SessionEnd}
 use Rattle.send_window.specs.Data.{SenderData, sender_after_dial}
-use Rattle.send_window.specs.Hearing.{tick_step, heard_reply, unless_ended}
+use Rattle.send_window.specs.Hearing.{tick_step, heard_reply, heard_ok, ok_in, unless_ended}
 use Rattle.send_window.specs.Session.{Step, hears, ticks, issues, gives, after_step, after_steps, replies_of}
 use Rattle.send_window.specs.Counting.{is_resend, answers_of, own_oks, last_of, IsAwaited, AreAwaited}
 use Rattle.send_window.specs.Laws.{AckedIsCounted, FlagsAreCounted}
+use Rattle.send_window.proofs.Sending.{keeps_kind}
 use Rattle.send_window.proofs.OwnOks.{former_behind, own_ok, own_oks-cons, last_of-cons}
 
 -- how many `ok`s the hello still takes
@@ -39,15 +41,33 @@ pub record Adds (own : ℕ) (later former : Reply) (awaited : Type 0) (s after :
   pub open_before : after.ended ≡ None → s.ended ≡ None
   pub readies : after.ended ≡ None → owed after.ready ≡ owed s.ready - own
 
-reply_adds : (heard_line : Reply) (moment : ℕ) (s : SenderData) (former : Reply) → s.ended ≡ None → s.swallow ≡ is_resend former →
-    Adds (own_of former (hears heard_line moment)) (former_after former (hears heard_line moment)) former (IsAwaited (hears heard_line moment) s) s (heard_reply heard_line moment s)
-reply_adds heard_line moment s former none_yet swallows = record {
+counted_adds : (number p b : Option ℕ) (t : Option Temps) (moment : ℕ) (s : SenderData) (former : Reply) → s.ended ≡ None → s.swallow ≡ is_resend former →
+    Adds (own_of former (hears (reply.Ok number p b t) moment)) (reply.Ok number p b t) former (IsAwaited (hears (reply.Ok number p b t) moment) s) s
+    (heard_ok s.swallow s.ready number moment s)
+counted_adds number p b t moment s former none_yet swallows = record {
   swallows = grind (arith, common_steps);
   most = grind (arith, common_steps);
   exact = grind (arith, common_steps);
   open_before = λ _. none_yet;
   readies = grind (arith, common_steps);
 }
+
+ok_adds : (by_number : Bool) (number p b : Option ℕ) (t : Option Temps) (moment : ℕ) (s : SenderData) (former : Reply) → by_number ≡ false → s.ended ≡ None →
+    s.swallow ≡ is_resend former →
+    Adds (own_of former (hears (reply.Ok number p b t) moment)) (reply.Ok number p b t) former (IsAwaited (hears (reply.Ok number p b t) moment) s) s
+    (ok_in by_number number moment s)
+ok_adds false number p b t moment s former counted none_yet swallows = counted_adds number p b t moment s former none_yet swallows
+ok_adds true number p b t moment s former counted none_yet swallows = absurd (cc)
+
+reply_adds : (heard_line : Reply) (moment : ℕ) (s : SenderData) (former : Reply) → s.numbered ≡ false → s.ended ≡ None → s.swallow ≡ is_resend former →
+    Adds (own_of former (hears heard_line moment)) (former_after former (hears heard_line moment)) former (IsAwaited (hears heard_line moment) s) s (heard_reply heard_line moment s)
+reply_adds (reply.Ok number p b t) moment s former counted none_yet swallows = ok_adds s.numbered number p b t moment s former counted none_yet swallows
+reply_adds (reply.Resend number) moment s former counted none_yet swallows = grind (arith, common_steps)
+reply_adds reply.Start moment s former counted none_yet swallows = grind (arith, common_steps)
+reply_adds reply.Busy moment s former counted none_yet swallows = grind (arith, common_steps)
+reply_adds (reply.Temps _) moment s former counted none_yet swallows = grind (arith, common_steps)
+reply_adds reply.Error moment s former counted none_yet swallows = grind (arith, common_steps)
+reply_adds reply.Other moment s former counted none_yet swallows = grind (arith, common_steps)
 
 unless_ended_adds : (ended : Option SessionEnd) (own : ℕ) (later former : Reply) (awaited : Type 0) (after s : SenderData) → s.ended ≡ ended →
     (ended ≡ None → Adds own later former awaited s after) → Adds own later former awaited s (unless_ended ended after s)
@@ -72,14 +92,14 @@ issue_adds : (text : List ℕ) (s : SenderData) (former : Reply) → (s.ended �
     Adds 0 former former (Unit {0}) s (after_step (issues text) s)
 issue_adds text s former swallows = grind (arith, common_steps)
 
-step_adds : (step : Step) (s : SenderData) (former : Reply) → (s.ended ≡ None → s.swallow ≡ is_resend former) →
+step_adds : (step : Step) (s : SenderData) (former : Reply) → s.numbered ≡ false → (s.ended ≡ None → s.swallow ≡ is_resend former) →
     Adds (own_of former step) (former_after former step) former (IsAwaited step s) s (after_step step s)
-step_adds (hears heard_line moment) s former swallows =
+step_adds (hears heard_line moment) s former counted swallows =
     unless_ended_adds s.ended _ _ former _ (heard_reply heard_line moment s) s refl
-    (λ none_yet. reply_adds heard_line moment s former none_yet (swallows none_yet))
-step_adds (ticks moment) s former swallows = tick_adds moment s former swallows
-step_adds (issues text) s former swallows = issue_adds text s former swallows
-step_adds (gives moment) s former swallows = give_adds moment s former swallows
+    (λ none_yet. reply_adds heard_line moment s former counted none_yet (swallows none_yet))
+step_adds (ticks moment) s former counted swallows = tick_adds moment s former swallows
+step_adds (issues text) s former counted swallows = issue_adds text s former swallows
+step_adds (gives moment) s former counted swallows = give_adds moment s former swallows
 
 -- the tally of a list is the tally of its first step and of the others
 first_counts : (step : Step) (steps : List Step) (former : Reply) →
@@ -127,15 +147,15 @@ more_tally step steps former s adds rest = record {
       omega (arith, rest.readies open_still, adds.readies (rest.open_before open_still), first_counts step steps former);
 }
 
-steps_tally : (steps : List Step) (former : Reply) (s : SenderData) → (s.ended ≡ None → s.swallow ≡ is_resend former) → Tally steps former s
-steps_tally [] former s swallows = none_tally former s swallows
-steps_tally (step ∷ steps) former s swallows =
-    let adds = step_adds step s former swallows in
-    more_tally step steps former s adds (steps_tally steps (former_after former step) (after_step step s) adds.swallows)
+steps_tally : (steps : List Step) (former : Reply) (s : SenderData) → s.numbered ≡ false → (s.ended ≡ None → s.swallow ≡ is_resend former) → Tally steps former s
+steps_tally [] former s counted swallows = none_tally former s swallows
+steps_tally (step ∷ steps) former s counted swallows =
+    let adds = step_adds step s former counted swallows in
+    more_tally step steps former s adds (steps_tally steps (former_after former step) (after_step step s) (keeps_kind step s ∙ counted) adds.swallows)
 
 pub acked_is_counted : AckedIsCounted
-acked_is_counted steps s =
-    let tally = steps_tally steps reply.Start (sender_after_dial s) (λ _. refl) in
+acked_is_counted steps s counted =
+    let tally = steps_tally steps reply.Start (sender_after_dial s) counted (λ _. refl) in
     (omega (arith, tally.most), λ open_still awaited. omega (arith, tally.exact open_still awaited))
 
 owed_false : (b : Bool) (n : ℕ) → owed b ≡ 1 - n → (b ≡ true) ↔ (1 ≤ n)
@@ -143,6 +163,6 @@ owed_false true n e = (λ _. omega arith, λ _. refl)
 owed_false false n e = (λ h. absurd (cc), λ h. absurd (omega arith))
 
 pub flags_are_counted : FlagsAreCounted
-flags_are_counted steps s open_still =
-    let tally = steps_tally steps reply.Start (sender_after_dial s) (λ _. refl) in
+flags_are_counted steps s counted open_still =
+    let tally = steps_tally steps reply.Start (sender_after_dial s) counted (λ _. refl) in
     (tally.swallows open_still, owed_false _ _ (tally.readies open_still))

@@ -1,6 +1,7 @@
 -- What a list of replies alone says of a session.
-use Rattle.std.specs.Prelude.{◌≡◌, ◌⊎◌, ℕ, ◌+◌, ◌-◌, ◌<◌, ◌≤◌, Bool, true, false, not, ◌&&◌, ◌||◌, List, [], ◌∷◌, ◌++◌, filter, count_by, zip, reverse, None, is_some, if◌then◌else◌}
-use Rattle.std.specs.List.{prefix_len}
+use Rattle.std.specs.Prelude.{◌≡◌, ◌⊎◌, ℕ, ◌+◌, ◌-◌, ◌<◌, ◌≤◌, ◌==◌, max, Bool, true, false, not, ◌&&◌, ◌||◌, List, [], ◌∷◌, ◌++◌, filter, count_by, zip, reverse, None, is_some, unwrap_or, if◌then◌else◌}
+use Rattle.std.specs.List.{prefix_len, list_any}
+use Rattle.marlin_frame.specs.Numbering.{place_of}
 use Rattle.marlin_reply.specs.declared.reply.Reply.{Reply}
 use Rattle.marlin_reply.specs.declared.reply.Reply.TheVariants as reply
 use Rattle.send_window.specs.Data.{SenderData}
@@ -47,6 +48,41 @@ own_oks first replies = count_by is_own_ok (with_former first (answers_of replie
 abbrev pub acked_of : List Reply → ℕ
 acked_of replies = own_oks reply.Start replies - 1
 
+-- the number that a reply names as an `ok`, 0 if it names none
+abbrev pub named_in : Reply → ℕ
+named_in (reply.Ok number _ _ _) = unwrap_or number 0
+named_in (reply.Resend _) = 0
+named_in reply.Start = 0
+named_in reply.Busy = 0
+named_in (reply.Temps _) = 0
+named_in reply.Error = 0
+named_in reply.Other = 0
+
+-- the greatest number that the `ok`s among the replies name
+abbrev pub most_named : List Reply → ℕ
+most_named [] = 0
+most_named (heard_line ∷ replies) = max (named_in heard_line) (most_named replies)
+
+-- how many lines the replies of a session acknowledge, by whether an `ok` counts only by the number that it names
+abbrev pub acked_as : Bool → List Reply → ℕ
+acked_as false replies = acked_of replies
+acked_as true replies = place_of (most_named replies)
+
+-- whether a reply is an `ok` that names the hello
+abbrev pub is_greeting_ok : Reply → Bool
+is_greeting_ok (reply.Ok number _ _ _) = is_some number && unwrap_or number 1 == 0
+is_greeting_ok (reply.Resend _) = false
+is_greeting_ok reply.Start = false
+is_greeting_ok reply.Busy = false
+is_greeting_ok (reply.Temps _) = false
+is_greeting_ok reply.Error = false
+is_greeting_ok reply.Other = false
+
+-- the replies don't acknowledge the hello, by whether an `ok` counts only by the number that it names
+abbrev pub IsUnbegun : Bool → List Reply → Type 0
+IsUnbegun false replies = own_oks reply.Start replies ≡ 0
+IsUnbegun true replies = list_any is_greeting_ok replies ≡ false
+
 -- the last of a list of replies, given what is before the first
 abbrev pub last_of : Reply → List Reply → Reply
 last_of first [] = first
@@ -77,8 +113,8 @@ abbrev pub sent_since : List Traffic → ℕ
 sent_since traffic = prefix_len is_sent (reverse traffic)
 
 -- the printer is silent: the hello has no `ok`, or at least four lines were sent since anything was received
-abbrev pub IsSilent : List Traffic → Type 0
-IsSilent traffic = (own_oks reply.Start (received_of traffic) ≡ 0) ⊎ (4 ≤ sent_since traffic)
+abbrev pub IsSilent : Bool → List Traffic → Type 0
+IsSilent numbered traffic = IsUnbegun numbered (received_of traffic) ⊎ (4 ≤ sent_since traffic)
 
 -- what goes over the line in a step of a sender
 abbrev pub traffic_at : Step → SenderData → List Traffic
@@ -125,3 +161,15 @@ IsAwaited (gives moment) s = Unit {0}
 abbrev pub AreAwaited : List Step → SenderData → Type 0
 AreAwaited [] s = Unit {0}
 AreAwaited (step ∷ steps) s = IsAwaited step s × AreAwaited steps (after_step step s)
+
+-- an `ok` that names a line comes only once the session is ready
+abbrev pub IsNamedLate : Step → SenderData → Type 0
+IsNamedLate (hears heard_line moment) s = s.ready ≡ false → named_in heard_line ≡ 0
+IsNamedLate (ticks moment) s = Unit {0}
+IsNamedLate (issues text) s = Unit {0}
+IsNamedLate (gives moment) s = Unit {0}
+
+-- each of them does
+abbrev pub AreNamedLate : List Step → SenderData → Type 0
+AreNamedLate [] s = Unit {0}
+AreNamedLate (step ∷ steps) s = IsNamedLate step s × AreNamedLate steps (after_step step s)

@@ -18,6 +18,8 @@ most_told = 20
 pub record SenderData : Type 0 where
   -- the most lines that may be unacknowledged
   pub window : ℕ
+  -- whether an `ok` counts only by the number that it names
+  pub numbered : Bool
   -- how long an answer may take
   pub limit : ℕ
   -- how many lines were issued
@@ -53,9 +55,10 @@ pub record SenderData : Type 0 where
   pub ended : Option SessionEnd
 
 -- a sender that has sent and heard nothing
-abbrev pub new_sender : ℕ → ℕ → SenderData
-new_sender w l = record {
+abbrev pub new_sender : ℕ → Bool → ℕ → SenderData
+new_sender w by_number l = record {
   window = w;
+  numbered = by_number;
   limit = l;
   issued = 0;
   acked = 0;
@@ -77,7 +80,7 @@ new_sender w l = record {
 
 -- the same sender at the beginning of a session
 abbrev pub sender_after_dial : SenderData → SenderData
-sender_after_dial s = record (new_sender s.window s.limit) { hello_due = true }
+sender_after_dial s = record (new_sender s.window s.numbered s.limit) { hello_due = true }
 
 -- what holds of a sender between its calls
 pub record IsSound (s : SenderData) : Type 0 where
@@ -85,6 +88,8 @@ pub record IsSound (s : SenderData) : Type 0 where
   pub open_window : 1 ≤ s.window
   pub small_window : s.window ≤ 16
   pub some_limit : 1 ≤ s.limit
+  -- an `ok` that counts by its number is never passed over
+  pub unswallowed : s.numbered ≡ true → s.swallow ≡ false
   -- the lines held are as many as were issued above acked, and the window holds all but one that stops the printer
   pub counted : s.acked + length s.held ≡ s.issued
   pub in_window : length s.held ≤ s.window + 1

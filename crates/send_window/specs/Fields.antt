@@ -6,6 +6,7 @@ use Rattle.send_window.specs.Data.{SenderData, IsSound}
 abbrev pub data_of : Inside → SenderData
 data_of s = record {
   window = s.window;
+  numbered = s.numbered;
   limit = s.limit;
   issued = s.issued;
   acked = s.acked;

@@ -1,5 +1,5 @@
 -- What a sender does with a reply and at a tick of the clock.
-use Rattle.std.specs.Prelude.{ℕ, ◌+◌, ◌-◌, min, max, Bool, true, false, ◌&&◌, drop, Option, None, Some, Result, Ok, Err, if◌then◌else◌, nat_lt, nat_le, ◌==◌}
+use Rattle.std.specs.Prelude.{ℕ, ◌+◌, ◌-◌, min, max, Bool, true, false, not, ◌&&◌, drop, Option, None, Some, Result, Ok, Err, if◌then◌else◌, nat_lt, nat_le, ◌==◌}
 use Rattle.byte_text.specs.Number.{most_u64}
 use Rattle.marlin_reply.specs.declared.reply.Reply.{Reply}
 use Rattle.marlin_reply.specs.declared.reply.Reply.TheVariants as reply
@@ -81,10 +81,41 @@ heard_ok true _ number moment s = after_swallowed_ok s
 heard_ok false false number moment s = made_ready s
 heard_ok false true number moment s = named_ok number moment s
 
+-- the `ok` of the line at a place, and with it of all before
+abbrev pub acknowledged_to : ℕ → ℕ → SenderData → SenderData
+acknowledged_to place moment s = record s {
+  acked = place;
+  held = drop (place - s.acked) s.held;
+  cursor = max s.cursor (place + 1);
+  deadline = deadline_at moment s.limit place s.issued;
+  silent = 0;
+  heard = false;
+  asked_anew = false;
+  told = 0;
+  ended = end_of_numbers place s.issued;
+}
+
+-- an `ok` of a ready session that names a line: through it if it is issued and above acked, and nothing if it is acknowledged
+abbrev pub place_ok : ℕ → ℕ → SenderData → SenderData
+place_ok number moment s =
+    if nat_lt (wire_number s.issued) number then ended_by (Counts number (wire_number (s.acked + 1))) s
+    else (if nat_lt (wire_number s.acked) number then acknowledged_to (place_of number) moment s else after_hearing s)
+
+-- an `ok` that counts only by the number that it names, by whether the session is ready; the hello's names 0
+abbrev pub ok_named : Bool → Option ℕ → ℕ → SenderData → SenderData
+ok_named ready None moment s = after_hearing s
+ok_named false (Some number) moment s = if number == 0 then made_ready s else after_hearing s
+ok_named true (Some number) moment s = place_ok number moment s
+
+-- an `ok`, by whether it counts only by its number
+abbrev pub ok_in : Bool → Option ℕ → ℕ → SenderData → SenderData
+ok_in false number moment s = heard_ok s.swallow s.ready number moment s
+ok_in true number moment s = ok_named s.ready number moment s
+
 -- a Resend of the hello
 abbrev pub hello_asked : ℕ → SenderData → SenderData
 hello_asked moment s = record s {
-  swallow = true;
+  swallow = not s.numbered;
   hello_due = true;
   deadline = deadline_at moment s.limit s.acked s.issued;
   silent = 0;
@@ -98,7 +129,7 @@ is_repeated place s = place == s.asked && nat_lt 0 s.left
 -- a Resend of a line that may be asked for
 abbrev pub line_asked : ℕ → ℕ → SenderData → SenderData
 line_asked place moment s = record s {
-  swallow = true;
+  swallow = not s.numbered;
   cursor = if is_repeated place s then s.cursor else place;
   asked = place;
   left = if is_repeated place s then s.left - 1 else s.sent - place;
@@ -112,9 +143,9 @@ line_asked place moment s = record s {
 abbrev pub resend_asked : ℕ → ℕ → SenderData → SenderData
 resend_asked number moment s =
     if nat_le number (wire_number s.acked)
-    then ended_by (AskedBack number (wire_number s.acked)) (record s { swallow = true })
+    then ended_by (AskedBack number (wire_number s.acked)) (record s { swallow = not s.numbered })
     else if nat_lt (wire_number (s.issued + 1)) number
-    then ended_by (AskedAhead number (wire_number s.issued)) (record s { swallow = true })
+    then ended_by (AskedAhead number (wire_number s.issued)) (record s { swallow = not s.numbered })
     else line_asked (place_of number) moment s
 
 -- a Resend, by whether the session is ready
@@ -129,7 +160,7 @@ heard_start true s = ended_by Restarted s
 
 -- a reply in a session that hasn't ended
 abbrev pub heard_reply : Reply → ℕ → SenderData → SenderData
-heard_reply (reply.Ok number _ _ _) moment s = heard_ok s.swallow s.ready number moment s
+heard_reply (reply.Ok number _ _ _) moment s = ok_in s.numbered number moment s
 heard_reply (reply.Resend number) moment s = heard_resend s.ready number moment s
 heard_reply reply.Start moment s = heard_start s.ready s
 heard_reply reply.Busy moment s = after_busy s

@@ -1,5 +1,6 @@
 -- What the steps of a sender keep and bring, in the words of the protocol.
 use Rattle.std.specs.Prelude.{◌≡◌, ◌≢◌, ◌⊎◌, ◌↔◌, ℕ, ◌+◌, ◌-◌, ◌*◌, ◌<◌, ◌≤◌, Bool, true, false, not, ◌&&◌, List, [], ◌∷◌, ◌++◌, Option, None, Some, slice_get, is_some, ◌||◌, if◌then◌else◌}
+use Rattle.std.specs.List.{list_any}
 use Rattle.byte_text.specs.Sendable.{IsSendable}
 use Rattle.marlin_reply.specs.declared.reply.Reply.{Reply}
 use Rattle.marlin_reply.specs.declared.reply.Reply.TheVariants as reply
@@ -10,12 +11,12 @@ use Rattle.send_window.specs.Data.{SenderData, IsSound, new_sender, sender_after
 use Rattle.send_window.specs.Hearing.{later, hear_step, tick_step, is_past, silent_limits}
 use Rattle.send_window.specs.Sending.{hello, line, next_of, last_room_of, push_step, frame_step, IsFramable}
 use Rattle.send_window.specs.Session.{Step, hears, ticks, issues, gives, after_step, after_steps, IsAllowed, AreAllowed, replies_of, texts_issued, HoldsIssued, IsSince, WaitsSince}
-use Rattle.send_window.specs.Counting.{is_ok, is_resend, is_pending, own_oks, acked_of, AreAwaited, IsInTurn, AreInTurn, traffic_of, IsSilent, IsQuiet, OwesLine}
+use Rattle.send_window.specs.Counting.{is_ok, is_resend, is_pending, own_oks, acked_of, acked_as, is_greeting_ok, AreAwaited, AreNamedLate, IsInTurn, AreInTurn, traffic_of, IsSilent, IsQuiet, OwesLine}
 
 -- a new sender is sound, a session begins so, and no step breaks it
 abbrev pub StaysSound : Type 0
 StaysSound =
-    ((w l : ℕ) → 1 ≤ w → w ≤ 16 → 1 ≤ l → IsSound (new_sender w l))
+    ((w l : ℕ) (by_number : Bool) → 1 ≤ w → w ≤ 16 → 1 ≤ l → IsSound (new_sender w by_number l))
     × ((s : SenderData) → IsSound s → IsSound (sender_after_dial s))
     × ((step : Step) (s : SenderData) → IsAllowed step s → IsSound s → IsSound (after_step step s))
 
@@ -46,36 +47,6 @@ GivesNothing =
     (s : SenderData) →
     (next_of s ≡ None) ↔ ((is_some s.ended ≡ true) ⊎ ((s.hello_due ≡ false) × (s.issued < s.cursor)))
 
--- an `ok` that isn't swallowed
-abbrev pub is_counted : Step → SenderData → Bool
-is_counted (hears heard_line moment) s = is_ok heard_line && not s.swallow
-is_counted (ticks moment) s = false
-is_counted (issues text) s = false
-is_counted (gives moment) s = false
-
--- acked never falls, rises by one at most, and only by an `ok` that isn't swallowed
-abbrev pub AckedRises : Type 0
-AckedRises =
-    (step : Step) (s : SenderData) →
-    (s.acked ≤ (after_step step s).acked)
-    × ((after_step step s).acked ≤ s.acked + 1)
-    × (is_counted step s ≡ false → (after_step step s).acked ≡ s.acked)
-
--- a Resend acknowledges nothing, nor does the `ok` after it
-abbrev pub ResendKeepsAcked : Type 0
-ResendKeepsAcked =
-    (number moment : ℕ) (s : SenderData) →
-    ((hear_step (reply.Resend number) moment s).acked ≡ s.acked)
-    × ((heard_line : Reply) (later_moment : ℕ) → is_ok heard_line ≡ true →
-    (hear_step heard_line later_moment (hear_step (reply.Resend number) moment s)).acked ≡ s.acked)
-
--- an end stays, acked with it, and nothing more goes out or is issued
-abbrev pub EndStays : Type 0
-EndStays =
-    (s : SenderData) (why : SessionEnd) → s.ended ≡ Some why →
-    (next_of s ≡ None) × (last_room_of s ≡ 0)
-    × ((step : Step) → ((after_step step s).ended ≡ Some why) × ((after_step step s).acked ≡ s.acked))
-
 -- the number that an `ok` names, if it is one
 abbrev pub ok_number : Reply → Option (Option ℕ)
 ok_number (reply.Ok number _ _ _) = Some number
@@ -86,6 +57,46 @@ ok_number (reply.Temps _) = None
 ok_number reply.Error = None
 ok_number reply.Other = None
 
+-- an `ok` that isn't swallowed
+abbrev pub is_counted : Step → SenderData → Bool
+is_counted (hears heard_line moment) s = is_ok heard_line && not s.swallow
+is_counted (ticks moment) s = false
+is_counted (issues text) s = false
+is_counted (gives moment) s = false
+
+-- the step hears an `ok` that names the line at this place
+abbrev pub IsOkOf : ℕ → Step → Type 0
+IsOkOf place (hears heard_line moment) = ok_number heard_line ≡ Some (Some (wire_number place))
+IsOkOf place (ticks moment) = ⊥
+IsOkOf place (issues text) = ⊥
+IsOkOf place (gives moment) = ⊥
+
+-- acked never falls. If `ok`s are counted, it rises by one at most, and only by one that isn't swallowed; if they count by
+-- their numbers, it rises only to an issued line that an `ok` names
+abbrev pub AckedRises : Type 0
+AckedRises =
+    (step : Step) (s : SenderData) →
+    (s.acked ≤ (after_step step s).acked)
+    × (s.numbered ≡ false → (after_step step s).acked ≤ s.acked + 1)
+    × (s.numbered ≡ false → is_counted step s ≡ false → (after_step step s).acked ≡ s.acked)
+    × (s.numbered ≡ true → s.acked < (after_step step s).acked →
+    IsOkOf (after_step step s).acked step × ((after_step step s).acked ≤ s.issued))
+
+-- a Resend acknowledges nothing, nor does the `ok` after it if `ok`s are counted
+abbrev pub ResendKeepsAcked : Type 0
+ResendKeepsAcked =
+    (number moment : ℕ) (s : SenderData) →
+    ((hear_step (reply.Resend number) moment s).acked ≡ s.acked)
+    × ((heard_line : Reply) (later_moment : ℕ) → s.numbered ≡ false → is_ok heard_line ≡ true →
+    (hear_step heard_line later_moment (hear_step (reply.Resend number) moment s)).acked ≡ s.acked)
+
+-- an end stays, acked with it, and nothing more goes out or is issued
+abbrev pub EndStays : Type 0
+EndStays =
+    (s : SenderData) (why : SessionEnd) → s.ended ≡ Some why →
+    (next_of s ≡ None) × (last_room_of s ≡ 0)
+    × ((step : Step) → ((after_step step s).ended ≡ Some why) × ((after_step step s).acked ≡ s.acked))
+
 -- an `ok` that acknowledges the last line that a session may have
 pub record IsLastOk (heard_line : Reply) (s : SenderData) : Type 0 where
   pub its_line : (ok_number heard_line ≡ Some None) ⊎ (ok_number heard_line ≡ Some (Some (wire_number (s.acked + 1))))
@@ -93,6 +104,27 @@ pub record IsLastOk (heard_line : Reply) (s : SenderData) : Type 0 where
   pub after_hello : s.ready ≡ true
   pub awaited : s.acked < s.issued
   pub last : s.acked + 1 ≡ most_lines
+
+-- an `ok` that names the last line that a session may have
+pub record IsLastNamed (heard_line : Reply) (s : SenderData) : Type 0 where
+  pub its_line : ok_number heard_line ≡ Some (Some (wire_number most_lines))
+  pub after_hello : s.ready ≡ true
+  pub awaited : s.acked < most_lines
+  pub issued : most_lines ≤ s.issued
+
+-- an `ok` that acknowledges the last line, by whether it counts only by its number
+abbrev pub IsLast : Bool → Reply → SenderData → Type 0
+IsLast false heard_line s = IsLastOk heard_line s
+IsLast true heard_line s = IsLastNamed heard_line s
+
+-- an `ok` of a ready session that doesn't fit: it names another line than the next one to acknowledge, or, if it counts
+-- only by its number, one after the last issued one
+abbrev pub IsMisfit : Bool → ℕ → Reply → SenderData → Type 0
+IsMisfit false number heard_line s =
+    (ok_number heard_line ≡ Some (Some number)) × (s.swallow ≡ false) × (s.ready ≡ true)
+    × (number ≢ wire_number (s.acked + 1))
+IsMisfit true number heard_line s =
+    (ok_number heard_line ≡ Some (Some number)) × (s.ready ≡ true) × (wire_number s.issued < number)
 
 -- what a reply must be to end the session so
 abbrev pub IsEndedBy : SessionEnd → Reply → SenderData → Type 0
@@ -104,11 +136,10 @@ IsEndedBy (AskedAhead number all) heard_line s =
     (heard_line ≡ reply.Resend number) × (s.ready ≡ true) × (wire_number (s.issued + 1) < number)
     × (wire_number s.acked < number) × (all ≡ wire_number s.issued)
 IsEndedBy (Counts number expected) heard_line s =
-    (ok_number heard_line ≡ Some (Some number)) × (s.swallow ≡ false) × (s.ready ≡ true)
-    × (number ≢ wire_number (s.acked + 1)) × (expected ≡ wire_number (s.acked + 1))
+    IsMisfit s.numbered number heard_line s × (expected ≡ wire_number (s.acked + 1))
 IsEndedBy Restarted heard_line s = (heard_line ≡ reply.Start) × (s.ready ≡ true)
 IsEndedBy (LostOk limits) heard_line s = ⊥
-IsEndedBy (NumbersUsed all) heard_line s = IsLastOk heard_line s × (all ≡ s.issued)
+IsEndedBy (NumbersUsed all) heard_line s = IsLast s.numbered heard_line s × (all ≡ s.issued)
 
 -- what a tick must find to end the session so: the fifth limit in a row has passed with nothing heard or without the `ok` of the hello, or the
 -- twentieth in which the printer asked for the line after the last issued one
@@ -131,14 +162,23 @@ EndsByRule =
     ((heard_line : Reply) → ((hear_step heard_line moment s).ended ≡ Some why) ↔ IsEndedBy why heard_line s)
     × (((tick_step moment s).ended ≡ Some why) ↔ IsEndedAt why moment s)
 
--- after any steps of a session acked is at most what the replies alone say, and just that if the session hasn't
--- ended and each `ok` that counts for a line came while one was unacknowledged
+-- if `ok`s are counted, after any steps of a session acked is at most what the replies alone say, and just that if the
+-- session hasn't ended and each `ok` that counts for a line came while one was unacknowledged
 abbrev pub AckedIsCounted : Type 0
 AckedIsCounted =
-    (steps : List Step) (s : SenderData) →
+    (steps : List Step) (s : SenderData) → s.numbered ≡ false →
     ((after_steps steps (sender_after_dial s)).acked ≤ acked_of (replies_of steps))
     × ((after_steps steps (sender_after_dial s)).ended ≡ None → AreAwaited steps (sender_after_dial s) →
     (after_steps steps (sender_after_dial s)).acked ≡ acked_of (replies_of steps))
+
+-- the same if `ok`s count by their numbers: acked is the last line that they name, if none named a line before the `ok`
+-- of the hello
+abbrev pub AckedIsNamed : Type 0
+AckedIsNamed =
+    (steps : List Step) (s : SenderData) → s.numbered ≡ true →
+    ((after_steps steps (sender_after_dial s)).acked ≤ acked_as true (replies_of steps))
+    × ((after_steps steps (sender_after_dial s)).ended ≡ None → AreNamedLate steps (sender_after_dial s) →
+    (after_steps steps (sender_after_dial s)).acked ≡ acked_as true (replies_of steps))
 
 -- one more reply counts if it is an `ok` and no Resend is pending; a Resend is pending from then on to the next `ok`
 abbrev pub CountsNext : Type 0
@@ -148,12 +188,21 @@ CountsNext =
     ≡ own_oks reply.Start replies + (if is_ok next && not (is_pending replies) then 1 else 0))
     × (is_pending (replies ++ next ∷ []) ≡ (is_resend next || (not (is_ok next) && is_pending replies)))
 
--- the swallow flag is set exactly if a Resend is pending, and the session is ready from the first `ok` that counts
+-- if `ok`s are counted, the swallow flag is set exactly if a Resend is pending, and the session is ready from the first
+-- `ok` that counts
 abbrev pub FlagsAreCounted : Type 0
 FlagsAreCounted =
-    (steps : List Step) (s : SenderData) → (after_steps steps (sender_after_dial s)).ended ≡ None →
+    (steps : List Step) (s : SenderData) → s.numbered ≡ false → (after_steps steps (sender_after_dial s)).ended ≡ None →
     ((after_steps steps (sender_after_dial s)).swallow ≡ is_pending (replies_of steps))
     × (((after_steps steps (sender_after_dial s)).ready ≡ true) ↔ (1 ≤ own_oks reply.Start (replies_of steps)))
+
+-- if `ok`s count by their numbers, no `ok` is ever passed over, and the session is ready from the first one that names
+-- the hello
+abbrev pub FlagsAreNamed : Type 0
+FlagsAreNamed =
+    (steps : List Step) (s : SenderData) → s.numbered ≡ true → (after_steps steps (sender_after_dial s)).ended ≡ None →
+    ((after_steps steps (sender_after_dial s)).swallow ≡ false)
+    × ((after_steps steps (sender_after_dial s)).ready ≡ list_any is_greeting_ok (replies_of steps))
 
 -- how the steps of a turn keep what a silent limit owes: a tick may owe a line, and once nothing is unsent none is owed
 abbrev pub SendsInSilence : Type 0
@@ -174,7 +223,7 @@ EndsInSilence =
     let before = after_steps steps (sender_after_dial s) in
     IsInTurn (ticks moment) before → before.ended ≡ None →
     (tick_step moment before).ended ≡ Some (NoAnswer count) →
-    IsSilent (traffic_of steps (sender_after_dial s))
+    IsSilent s.numbered (traffic_of steps (sender_after_dial s))
 
 -- no session ends with no answer sooner than five limits after it began or a line was acknowledged, nor if the
 -- hello and all issued lines are acknowledged; and for a missing `ok` none sooner than twenty, nor without such a line
@@ -191,6 +240,10 @@ WaitsFiveLimits =
 -- a text that may be sent is one that a frame can carry
 abbrev pub CarriesSendable : Type 0
 CarriesSendable = (text : List ℕ) → IsSendable text → IsFramable text
+
+-- no step changes by what an `ok` counts
+abbrev pub KeepsKind : Type 0
+KeepsKind = (step : Step) (s : SenderData) → (after_step step s).numbered ≡ s.numbered
 
 -- what neither the clock nor a frame that goes out changes
 pub record KeepsLines (old new : SenderData) : Type 0 where

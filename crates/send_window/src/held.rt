@@ -100,6 +100,14 @@ impl Held {
         self.lines.pop_front();
     }
 
+    // Drops this number of lines at the front.
+    pub(crate) fn drop_first(&mut self, count: usize)
+        requires { count ≤ length self.old }
+        ensures { self.new ≡ drop count self.old }
+    {
+        self.lines.truncate_front(self.lines.len() - count);
+    }
+
     // Writes the frame of the line at `index` under this number.
     pub(crate) fn frame_at(&self, index: usize, number: u32, into: &mut Line)
         requires held { index < length self.now }

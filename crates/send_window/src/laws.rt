@@ -1,5 +1,5 @@
 //! Laws of a sender's steps, which specs/ defines; each function does nothing, and its contract is the law.
-ghost use Rattle.send_window.specs.Laws.{HoldsLines, GivesHeldLines, AckedRises, EndStays, EndsByRule, AckedIsCounted, SendsInSilence, EndsInSilence, WaitsFiveLimits};
+ghost use Rattle.send_window.specs.Laws.{HoldsLines, GivesHeldLines, AckedRises, EndStays, EndsByRule, AckedIsCounted, AckedIsNamed, FlagsAreNamed, SendsInSilence, EndsInSilence, WaitsFiveLimits};
 
 /// The lines held are the issued ones above acked, each with its number.
 pub fn held_law()
@@ -11,7 +11,7 @@ pub fn given_law()
     ensures { GivesHeldLines }
 {}
 
-/// Only an `ok` that doesn't follow a Resend acknowledges a line.
+/// Only an `ok` that doesn't follow a Resend acknowledges a line, or, if `ok`s count by their numbers, one that names it.
 pub fn acked_law()
     ensures { AckedRises }
 {}
@@ -29,6 +29,12 @@ pub fn ends_law()
 /// The lines acknowledged are counted over the replies.
 pub fn counted_law()
     ensures { AckedIsCounted }
+{}
+
+/// If `ok`s count by their numbers, the lines acknowledged are those that the replies name.
+pub fn named_law()
+    ensures lines { AckedIsNamed }
+    ensures flags { FlagsAreNamed }
 {}
 
 /// Each limit that passes in silence brings a line, and the fifth the end.

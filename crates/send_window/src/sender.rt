@@ -36,6 +36,8 @@ const MOST_TOLD: u8 = 20;
 pub struct Sender {
     // Lines go by their places in the session, from 1. First the most lines that may be unacknowledged.
     window: u8,
+    // Whether an `ok` counts only by the number that it names.
+    numbered: bool,
     // How long an answer may take.
     limit: u64,
     // How many lines were issued, and how many of them were acknowledged.
@@ -83,16 +85,18 @@ impl Model for Sender {
 
 impl Sender {
     /// A sender of no session yet. At most `window` lines are unacknowledged at a time, 1 to 16; `limit` is the time
-    /// that an answer may take, in milliseconds, at least 1. Fails if out of memory.
-    pub fn new(alloc: Global, window: u8, limit: u64) -> Result<Sender, AllocError>
+    /// that an answer may take, in milliseconds, at least 1. If `numbered`, an `ok` counts only by the number that it
+    /// names, as with Marlin's `ADVANCED_OK`. Fails if out of memory.
+    pub fn new(alloc: Global, window: u8, numbered: bool, limit: u64) -> Result<Sender, AllocError>
         requires open_window { 1 ≤ window }
         requires small_window { window ≤ 16 }
         requires some_limit { 1 ≤ limit }
-        ensures { IfOk result (λ sender. sender ≡ new_sender window limit) }
+        ensures { IfOk result (λ sender. sender ≡ new_sender window numbered limit) }
     {
         let held = Held::new(alloc)?;
         Ok(Sender {
             window,
+            numbered,
             limit,
             issued: 0,
             acked: 0,
@@ -137,8 +141,9 @@ impl Sender {
     }
 
     /// Takes a reply of the printer that was received at `moment`, in milliseconds: an `ok` acknowledges the next line unless
-    /// it follows a Resend, and a Resend has its line sent again with all that follow it. What fits no line of the session
-    /// ends it. After an end it changes nothing and returns that end.
+    /// it follows a Resend, or all lines through the one that it names if the `ok`s count by their numbers. A Resend has its
+    /// line sent again with all that follow it. What fits no line of the session ends it. After an end it changes nothing and
+    /// returns that end.
     pub fn hear(&mut self, reply: &Reply, moment: u64) -> Result<(), SessionEnd>
         ensures state { self.new ≡ hear_step reply.now moment self.old }
         ensures answer { result ≡ answer_of self.new.ended }

@@ -4,6 +4,7 @@ ghost use Rattle.send_window.specs.Counting.{acked_of};
 
 mod ends;
 mod lost;
+mod named;
 
 use byte_text::{Line, has_byte};
 use marlin_reply::Reply;
@@ -152,7 +153,7 @@ const LATE_RESEND: [Step; 7] = [
 
 #[test]
 fn late_resend(rt: HostRuntime) -> Result<(), Fail> {
-    let mut sender = Sender::new(rt.alloc(), 4, LIMIT)?;
+    let mut sender = Sender::new(rt.alloc(), 4, false, LIMIT)?;
     play(&rt, &mut sender, &LATE_RESEND);
     check_counts(&rt, &sender, 0, 1, 3);
     play(&rt, &mut sender, &[(30_003, Act::Ok, NOTHING)]);
@@ -180,7 +181,7 @@ const REPEATED_RESEND: [Step; 14] = [
 
 #[test]
 fn repeated_resend(rt: HostRuntime) -> Result<(), Fail> {
-    let mut sender = Sender::new(rt.alloc(), 4, LIMIT)?;
+    let mut sender = Sender::new(rt.alloc(), 4, false, LIMIT)?;
     play(&rt, &mut sender, &REPEATED_RESEND);
     check_counts(&rt, &sender, 4, 4, 4);
     Ok(())
@@ -209,7 +210,7 @@ const THIRD_RESEND: [Step; 17] = [
 
 #[test]
 fn third_resend(rt: HostRuntime) -> Result<(), Fail> {
-    let mut sender = Sender::new(rt.alloc(), 16, LIMIT)?;
+    let mut sender = Sender::new(rt.alloc(), 16, false, LIMIT)?;
     play(&rt, &mut sender, &THIRD_RESEND);
     check_counts(&rt, &sender, 3, 3, 16);
     Ok(())
@@ -235,7 +236,7 @@ fn gets_garbled_hello(rt: &impl Abort, sender: &mut Sender) {
 
 #[test]
 fn garbled_hello(rt: HostRuntime) -> Result<(), Fail> {
-    let mut sender = Sender::new(rt.alloc(), 1, LIMIT)?;
+    let mut sender = Sender::new(rt.alloc(), 1, false, LIMIT)?;
     gets_garbled_hello(&rt, &mut sender);
     Ok(())
 }
@@ -256,7 +257,7 @@ const BUSY_THEN_SILENT: [Step; 10] = [
 
 #[test]
 fn busy_then_silent(rt: HostRuntime) -> Result<(), Fail> {
-    let mut sender = Sender::new(rt.alloc(), 1, LIMIT)?;
+    let mut sender = Sender::new(rt.alloc(), 1, false, LIMIT)?;
     gets_garbled_hello(&rt, &mut sender);
     play(&rt, &mut sender, &BUSY_THEN_SILENT);
     Ok(())
@@ -265,7 +266,7 @@ fn busy_then_silent(rt: HostRuntime) -> Result<(), Fail> {
 // The one call that takes memory.
 #[test]
 fn ample(rt: HostRuntime) -> Result<(), Fail> {
-    let sender = Sender::new(rt.alloc(), 16, 1)?;
+    let sender = Sender::new(rt.alloc(), 16, false, 1)?;
     check_counts(&rt, &sender, 0, 0, 0);
     assert!(rt; !sender.ready());
     Ok(())

@@ -1,7 +1,7 @@
 //! What a reply makes of a sender.
-ghost use Rattle.std.specs.Prelude.{◌≡◌, ◌<◌, ◌≤◌, ◌+◌, None, true};
+ghost use Rattle.std.specs.Prelude.{◌≡◌, ◌<◌, ◌≤◌, ◌+◌, None, true, false};
 ghost use Rattle.marlin_frame.specs.Numbering.{wire_number};
-ghost use Rattle.send_window.specs.Hearing.{acknowledged, after_busy, deadline_at, end_of_numbers, heard_ok, heard_reply, heard_resend, heard_start, hello_asked, is_repeated, line_asked, line_ok, named_ok, resend_asked};
+ghost use Rattle.send_window.specs.Hearing.{acknowledged, acknowledged_to, after_busy, deadline_at, end_of_numbers, heard_ok, heard_reply, heard_resend, heard_start, hello_asked, is_repeated, line_asked, line_ok, made_ready, named_ok, ok_in, ok_named, place_ok, resend_asked};
 
 use super::Sender;
 use super::clock::{deadline_of, end_of, renewed};
@@ -25,6 +25,19 @@ impl Sender {
 
     fn hear_ok(&mut self, number: Option<u32>, moment: u64)
         requires { self.old.ended ≡ None }
+        ensures { self.new ≡ ok_in self.old.numbered number moment self.old }
+    {
+        if self.numbered {
+            self.hear_named_ok(number, moment);
+        } else {
+            self.hear_counted_ok(number, moment);
+        }
+    }
+
+    // An `ok` that counts by its place among the `ok`s.
+    fn hear_counted_ok(&mut self, number: Option<u32>, moment: u64)
+        requires open { self.old.ended ≡ None }
+        requires by_place { self.old.numbered ≡ false }
         ensures { self.new ≡ heard_ok self.old.swallow self.old.ready number moment self.old }
     {
         if self.swallow {
@@ -33,12 +46,69 @@ impl Sender {
         } else if self.ready {
             self.hear_ok_of(number, moment);
         } else {
-            self.ready = true;
-            self.hello_due = false;
-            self.deadline = None;
-            self.silent = 0;
-            self.heard = false;
+            self.make_ready();
         }
+    }
+
+    // The `ok` of the hello.
+    fn make_ready(&mut self)
+        requires open { self.old.ended ≡ None }
+        requires unready { self.old.ready ≡ false }
+        ensures { self.new ≡ made_ready self.old }
+    {
+        self.ready = true;
+        self.hello_due = false;
+        self.deadline = None;
+        self.silent = 0;
+        self.heard = false;
+    }
+
+    // An `ok` that counts only by the number that it names; the hello's names 0.
+    fn hear_named_ok(&mut self, number: Option<u32>, moment: u64)
+        requires open { self.old.ended ≡ None }
+        ensures { self.new ≡ ok_named self.old.ready number moment self.old }
+    {
+        match number {
+            Some(number) if self.ready => self.hear_ok_through(number, moment),
+            Some(0) => self.make_ready(),
+            _ => self.heard = true,
+        }
+    }
+
+    // An `ok` that names a line: it acknowledges all through that one.
+    fn hear_ok_through(&mut self, number: u32, moment: u64)
+        requires open { self.old.ended ≡ None }
+        requires ready { self.old.ready ≡ true }
+        ensures { self.new ≡ place_ok number moment self.old }
+    {
+        if number > wire_number(self.issued) {
+            self.ended = Some(SessionEnd::Counts {
+                number,
+                expected: wire_number(self.acked + 1),
+            });
+        } else if number > wire_number(self.acked) {
+            self.acknowledge_to(number - HELLO_NUMBER, moment);
+        } else {
+            self.heard = true;
+        }
+    }
+
+    fn acknowledge_to(&mut self, place: u32, moment: u64)
+        requires open { self.old.ended ≡ None }
+        requires ready { self.old.ready ≡ true }
+        requires above { self.old.acked < place }
+        requires issued { place ≤ self.old.issued }
+        ensures { self.new ≡ acknowledged_to place moment self.old }
+    {
+        self.held.drop_first((place - self.acked) as usize);
+        self.acked = place;
+        self.cursor = self.cursor.max(place + 1);
+        self.deadline = deadline_of(moment, self.limit, place, self.issued);
+        self.silent = 0;
+        self.heard = false;
+        self.asked_anew = false;
+        self.told = 0;
+        self.ended = end_of(place, self.issued);
     }
 
     // An `ok` that may name a line: only the next one to acknowledge fits.
@@ -93,7 +163,7 @@ impl Sender {
         if self.ready {
             self.hear_line_resend(number, moment);
         } else {
-            self.swallow = true;
+            self.swallow = !self.numbered;
             self.hello_due = true;
             self.deadline = deadline_of(moment, self.limit, self.acked, self.issued);
             self.silent = 0;
@@ -107,13 +177,13 @@ impl Sender {
         ensures { self.new ≡ resend_asked number moment self.old }
     {
         if number <= wire_number(self.acked) {
-            self.swallow = true;
+            self.swallow = !self.numbered;
             self.ended = Some(SessionEnd::AskedBack {
                 asked: number,
                 acked: wire_number(self.acked),
             });
         } else if number > wire_number(self.issued + 1) {
-            self.swallow = true;
+            self.swallow = !self.numbered;
             self.ended = Some(SessionEnd::AskedAhead {
                 asked: number,
                 issued: wire_number(self.issued),
@@ -137,7 +207,7 @@ impl Sender {
             self.asked = place;
             self.left = self.sent.saturating_sub(place);
         }
-        self.swallow = true;
+        self.swallow = !self.numbered;
         let next = deadline_of(moment, self.limit, self.acked, self.issued);
         self.deadline = renewed(self.deadline, next);
         self.silent = 0;

@@ -53,7 +53,7 @@ fn ends_by(rt: &impl Abort, sender: &mut Sender, act: Act, end: SessionEnd) {
 #[test]
 fn ends_of_a_session(rt: HostRuntime) -> Result<(), Fail> {
     for (act, end) in ENDS {
-        let mut sender = Sender::new(rt.alloc(), 4, LIMIT)?;
+        let mut sender = Sender::new(rt.alloc(), 4, false, LIMIT)?;
         ends_by(&rt, &mut sender, act, end);
     }
     Ok(())

@@ -16,7 +16,7 @@ const LOST_HELLO: [Step; 7] = [
 
 #[test]
 fn lost_hello(rt: HostRuntime) -> Result<(), Fail> {
-    let mut sender = Sender::new(rt.alloc(), 4, LIMIT)?;
+    let mut sender = Sender::new(rt.alloc(), 4, false, LIMIT)?;
     play(&rt, &mut sender, &LOST_HELLO);
     Ok(())
 }
@@ -36,7 +36,7 @@ const LOST_HELLO_BUSY: [Step; 9] = [
 
 #[test]
 fn lost_hello_busy(rt: HostRuntime) -> Result<(), Fail> {
-    let mut sender = Sender::new(rt.alloc(), 4, LIMIT)?;
+    let mut sender = Sender::new(rt.alloc(), 4, false, LIMIT)?;
     play(&rt, &mut sender, &LOST_HELLO_BUSY);
     Ok(())
 }
@@ -61,7 +61,7 @@ fn asks_for_the_next(rt: &impl Abort, sender: &mut Sender, round: u16, gives: Gi
 // It does so in each limit: the session ends in the twentieth.
 #[test]
 fn lost_ok(rt: HostRuntime) -> Result<(), Fail> {
-    let mut sender = Sender::new(rt.alloc(), 1, LIMIT)?;
+    let mut sender = Sender::new(rt.alloc(), 1, false, LIMIT)?;
     gets_garbled_hello(&rt, &mut sender);
     play(&rt, &mut sender, &LOST_OK);
     for round in 0..19u16 {
@@ -82,7 +82,7 @@ const BUSY_THEN_OK: [Step; 5] = [
 
 #[test]
 fn lost_ok_busy(rt: HostRuntime) -> Result<(), Fail> {
-    let mut sender = Sender::new(rt.alloc(), 1, LIMIT)?;
+    let mut sender = Sender::new(rt.alloc(), 1, false, LIMIT)?;
     gets_garbled_hello(&rt, &mut sender);
     play(&rt, &mut sender, &LOST_OK);
     for round in 0..19u16 {
