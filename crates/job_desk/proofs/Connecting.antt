@@ -1,7 +1,7 @@
 -- While a desk connects, nothing ends.
 use Rattle.std.proofs.Common.{◌≡◌, ℕ, ap, ◌∙◌}
 use Rattle.job_desk.specs.Data.{Data}
-use Rattle.job_desk.specs.Note.{end_at, after_open, note_step}
+use Rattle.job_desk.specs.Note.{end_at, after_open, note_step, with_acked}
 use Rattle.job_desk.specs.Pull.{settle_at, settled}
 use Rattle.job_desk.specs.declared.link_fact.LinkFact.TheVariants as fact
 use Rattle.job_desk.specs.declared.state.State.TheVariants.{Connecting}
@@ -11,4 +11,4 @@ none_ends d at = ap (λ s. (settled (end_at s d).1).state) at ∙ ap (λ s. (set
 
 -- nor if its link is made
 pub note_opened : (acked moment : ℕ) (d : Data) → d.state ≡ Connecting → (note_step acked fact.Opened moment d).1.state ≡ Connecting
-note_opened acked moment d at = none_ends (after_open (record d { acked = acked })) at
+note_opened acked moment d at = none_ends (after_open (with_acked acked moment d)) at

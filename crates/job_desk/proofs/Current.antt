@@ -4,7 +4,7 @@ use Rattle.std.proofs.lemmas.Bool.{false≢true}
 use Rattle.std.specs.Prelude.{◌&&◌}
 use Rattle.job_desk.specs.Data.{ScriptTexts, Data, File, Line, script_lines, commands_of, with_script, moment_after}
 use Rattle.job_desk.specs.Table.{closing, connect_at, disconnect_at, select_at, drop_file_step, is_named, pause_at, resume_at, toggle_at, cancel_at, manual_at, add_manual, take_manual, is_stop, stopping}
-use Rattle.job_desk.specs.Pull.{Drawn, draw_in_order, nothing, next_number, keep_number, issue, from_scripts, from_manual, from_poll, poll_is_due, from_file, draw_last, draw_at, is_issued, settle_at, pull_step}
+use Rattle.job_desk.specs.Pull.{Drawn, draw_in_order, nothing, next_number, keep_number, issue, from_scripts, from_manual, from_poll, poll_is_due, from_probe, probe_is_due, from_file, draw_last, draw_at, is_issued, settle_at, pull_step}
 use Rattle.job_desk.specs.Course.{job_line}
 use Rattle.job_desk.specs.Run.{print_lines}
 use Rattle.job_desk.specs.declared.state.State.{State}
@@ -215,7 +215,7 @@ module _ (p : ℕ) (commands : List (List ℕ)) where
   choose_data out false x y hx hy = hy
 
   current-keep : (out : List Line) (tag : Tag) (number : ℕ) (d : Data) → CurrentTo p commands out d → CurrentTo p commands out (keep_number tag number d)
-  current-keep out (Script at print) number d h = choose_data out (nat_eq print 0) d (record d { print_line = number }) h h
+  current-keep out (Script at print) number d h = choose_data out (nat_eq print 0) (record d { last_line = number }) (record d { print_line = number; last_line = number }) h h
   current-keep out (Job print index) number d h = h
   current-keep out Manual number d h = h
   current-keep out Poll number d h = h
@@ -262,6 +262,11 @@ module _ (p : ℕ) (commands : List (List ℕ)) where
       choose_drawn out (poll_is_due moment d) _ next (other_issue out (record { text = codes "M105"; tag = Poll })
       (record d { poll_at = moment_after moment d.poll_ms }) refl h) k
 
+  current-probe : (out : List Line) (awaited moment : ℕ) (d : Data) → CurrentTo p commands out d → CurrentDrawn out (from_probe awaited moment d)
+  current-probe out awaited moment d h =
+      choose_drawn out (probe_is_due awaited moment d) _ (nothing d) (other_issue out (record { text = codes "M400"; tag = Poll })
+      (record d { probe_at = moment_after moment d.poll_ms }) refl h) h
+
   own_job : (d : Data) (text : List ℕ) → d.greatest ≡ p → own p (job_line d.greatest d.cursor text) ≡ job_line p d.cursor text ∷ []
   own_job d text e =
       ap (λ (k : ℕ). own p (job_line k d.cursor text)) e ∙ ap (λ (b : Bool). cond b (job_line p d.cursor text ∷ []) []) (same_test p)
@@ -292,18 +297,18 @@ module _ (p : ℕ) (commands : List (List ℕ)) where
   current-talk out moment d next h k =
       current-scripts out d.waiting d _ refl h (λ w. current-from_manual out d.manual d _ h (current-poll out moment d next h (k w)))
 
-  current-last : (out : List Line) (b : Bool) (d : Data) → CurrentTo p commands out d → CurrentDrawn out (draw_last b d)
-  current-last out false d h = current-scripts out d.waiting d (nothing d) refl h (λ w. h)
-  current-last out true d h = current-from_manual out d.manual d (nothing d) h h
+  current-last : (out : List Line) (b : Bool) (moment : ℕ) (d : Data) → CurrentTo p commands out d → CurrentDrawn out (draw_last b moment d)
+  current-last out false moment d h = current-scripts out d.waiting d _ refl h (λ w. current-probe out d.last_line moment d h)
+  current-last out true moment d h = current-from_manual out d.manual d (nothing d) h h
 
   current-draw : (out : List Line) (s : State) (moment : ℕ) (d : Data) → d.state ≡ s → CurrentTo p commands out d → CurrentDrawn out (draw_at s moment d)
   current-draw out Printing moment d e h = current-talk out moment d _ h (current-file out _ d refl e h)
-  current-draw out Operational moment d e h = current-talk out moment d (nothing d) h (λ w. h)
-  current-draw out Pausing moment d e h = current-talk out moment d (nothing d) h (λ w. h)
-  current-draw out Paused moment d e h = current-talk out moment d (nothing d) h (λ w. h)
-  current-draw out Cancelling moment d e h = current-talk out moment d (nothing d) h (λ w. h)
-  current-draw out Finishing moment d e h = current-talk out moment d (nothing d) h (λ w. h)
-  current-draw out Closing moment d e h = current-last out d.stopped d h
+  current-draw out Operational moment d e h = current-talk out moment d _ h (λ w. current-probe out d.issued moment d h)
+  current-draw out Pausing moment d e h = current-talk out moment d _ h (λ w. current-probe out d.issued moment d h)
+  current-draw out Paused moment d e h = current-talk out moment d _ h (λ w. current-probe out d.issued moment d h)
+  current-draw out Cancelling moment d e h = current-talk out moment d _ h (λ w. current-probe out d.issued moment d h)
+  current-draw out Finishing moment d e h = current-talk out moment d _ h (λ w. current-probe out d.issued moment d h)
+  current-draw out Closing moment d e h = current-last out d.stopped moment d h
   current-draw out _ moment d e h = h
 
   -- all commands were issued

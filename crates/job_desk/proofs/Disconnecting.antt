@@ -2,7 +2,7 @@
 use Rattle.std.proofs.Common.{◌≡◌, Bool, true, false, ◌||◌, refl, sym, subst}
 use Rattle.std.specs.Prelude.{◌&&◌, ◌==◌, nat_le, length}
 use Rattle.job_desk.specs.Data.{Data}
-use Rattle.job_desk.specs.Table.{disconnect_at, hanging_up, is_closable, is_closable_at}
+use Rattle.job_desk.specs.Table.{closing_line, disconnect_at, hanging_up, is_closable, is_closable_at}
 use Rattle.job_desk.specs.declared.state.State.{State}
 use Rattle.job_desk.specs.declared.state.State.TheVariants.{Closing}
 
@@ -19,4 +19,4 @@ closes_at_once d at goes =
     let By : State → Type 0 = λ s. is_closable_at (disconnect_at s d).state (disconnect_at s d) ≡ true in
     let In : State → Type 0 = λ s. is_closable_at s (hanging_up d) ≡ true in
     let On : Bool → Type 0 = λ b. is_closable b (hanging_up d) ≡ true in
-    subst By (sym at) (subst In (sym at) (subst On (sym goes) (or_true ((length d.waiting == 0) && nat_le d.issued d.acked))))
+    subst By (sym at) (subst In (sym at) (subst On (sym goes) (or_true ((length d.waiting == 0) && nat_le (closing_line d) d.acked))))

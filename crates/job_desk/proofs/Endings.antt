@@ -5,7 +5,7 @@ use Rattle.std.proofs.lemmas.Bool.{false≢true, and_parts}
 use Rattle.std.proofs.lemmas.Bool.Decides.{nat_tests}
 use Rattle.job_desk.specs.Data.{Data, with_script}
 use Rattle.job_desk.specs.Pull.{is_issued, settle_at, settled}
-use Rattle.job_desk.specs.Note.{Noted, after_ending, is_over, end_at, finish, leave, hung_up, fail, ready_at, after_open, note_fact, note_step}
+use Rattle.job_desk.specs.Note.{Noted, after_ending, is_over, end_at, finish, leave, hung_up, fail, ready_at, after_open, note_fact, note_step, with_acked}
 use Rattle.job_desk.specs.Endings.{has_print, IsActive, IsAcknowledged, is_failure, EndsAs, IsEnding}
 use Rattle.job_desk.specs.declared.state.State.{State}
 use Rattle.job_desk.specs.declared.state.State.TheVariants.{Offline, Connecting, Printing, Pausing, Paused, Cancelling, Finishing, Fault}
@@ -130,40 +130,40 @@ module _ (acked : ℕ) (f : LinkFact) (d : Data) where
 
 module _ (acked moment : ℕ) (d : Data) (going : IsActive d) where
   ready_ends : (s : State) → d.state ≡ s →
-      EndsIn acked fact.Ready d (after_ending (ready_at s moment (record d { acked = acked; ready = true }))).0
-      (after_ending (ready_at s moment (record d { acked = acked; ready = true }))).1
+      EndsIn acked fact.Ready d (after_ending (ready_at s moment (record (with_acked acked moment d) { ready = true }))).0
+      (after_ending (ready_at s moment (record (with_acked acked moment d) { ready = true }))).1
   ready_ends Connecting e = (refl, refl)
   ready_ends _ e =
-      end_ends acked fact.Ready d going d.state (record d { acked = acked; ready = true }) refl
+      end_ends acked fact.Ready d going d.state (record (with_acked acked moment d) { ready = true }) refl
       (record { active = refl; greatest = refl; waiting = refl; line = λ l. inr l; left = λ l. l })
 
-  hung_ends : (b : Bool) → d.stopped ≡ b → EndsIn acked fact.Closed d (hung_up b (record d { acked = acked })).0 (hung_up b (record d { acked = acked })).1
+  hung_ends : (b : Bool) → d.stopped ≡ b → EndsIn acked fact.Closed d (hung_up b (with_acked acked moment d)).0 (hung_up b (with_acked acked moment d)).1
   hung_ends false e =
-      leave_ends acked fact.Closed d outcome.Cancelled Offline d.active (record d { acked = acked }) refl refl refl (inr (refl, e)) (λ t. inr (refl, e))
-  hung_ends true e = leave_ends acked fact.Closed d outcome.Failed Fault d.active (record d { acked = acked }) refl refl refl (inr (refl, e)) (λ t. tt)
+      leave_ends acked fact.Closed d outcome.Cancelled Offline d.active (with_acked acked moment d) refl refl refl (inr (refl, e)) (λ t. inr (refl, e))
+  hung_ends true e = leave_ends acked fact.Closed d outcome.Failed Fault d.active (with_acked acked moment d) refl refl refl (inr (refl, e)) (λ t. tt)
 
-  fact_ends : (f : LinkFact) → EndsIn acked f d (note_fact f moment (record d { acked = acked })).0 (note_fact f moment (record d { acked = acked })).1
+  fact_ends : (f : LinkFact) → EndsIn acked f d (note_fact f moment (with_acked acked moment d)).0 (note_fact f moment (with_acked acked moment d)).1
   fact_ends fact.Quiet =
-      end_ends acked fact.Quiet d going d.state (record d { acked = acked }) refl
+      end_ends acked fact.Quiet d going d.state (with_acked acked moment d) refl
       (record { active = refl; greatest = refl; waiting = refl; line = λ l. inr l; left = λ l. l })
   fact_ends fact.Opened =
-      end_ends acked fact.Opened d going d.state (after_open (record d { acked = acked })) refl
+      end_ends acked fact.Opened d going d.state (after_open (with_acked acked moment d)) refl
       (record { active = refl; greatest = refl; waiting = refl; line = λ l. inl refl; left = λ l. (let none : 0 ≤ acked = omega arith in none) })
   fact_ends fact.Ready = ready_ends d.state refl
   fact_ends fact.Closed = hung_ends d.stopped refl
-  fact_ends fact.NoPort = leave_ends acked fact.NoPort d outcome.Failed Fault d.active (record d { acked = acked }) refl refl refl (inl refl) (λ e. tt)
+  fact_ends fact.NoPort = leave_ends acked fact.NoPort d outcome.Failed Fault d.active (with_acked acked moment d) refl refl refl (inl refl) (λ e. tt)
   fact_ends fact.Failed =
-      fail_ends acked fact.Failed d (after_ending (record d { acked = acked })) refl
-      (end_ends acked fact.Failed d going d.state (record d { acked = acked }) refl
+      fail_ends acked fact.Failed d (after_ending (with_acked acked moment d)) refl
+      (end_ends acked fact.Failed d going d.state (with_acked acked moment d) refl
       (record { active = refl; greatest = refl; waiting = refl; line = λ l. inr l; left = λ l. l }))
   fact_ends (fact.Ended end) =
-      fail_ends acked (fact.Ended end) d (after_ending (record d { acked = acked })) refl
-      (end_ends acked (fact.Ended end) d going d.state (record d { acked = acked }) refl
+      fail_ends acked (fact.Ended end) d (after_ending (with_acked acked moment d)) refl
+      (end_ends acked (fact.Ended end) d going d.state (with_acked acked moment d) refl
       (record { active = refl; greatest = refl; waiting = refl; line = λ l. inr l; left = λ l. l }))
 
   pub note_ends : (f : LinkFact) → EndsIn acked f d (note_step acked f moment d).0 (note_step acked f moment d).1
   note_ends f =
-      let noted : Noted = note_fact f moment (record d { acked = acked }) in
+      let noted : Noted = note_fact f moment (with_acked acked moment d) in
       settle_ends acked f d noted.0 noted.1 (fact_ends f)
 
 -- the ending of a note, under any name

@@ -4,8 +4,8 @@ use Rattle.std.proofs.lemmas.Bool.{false≢true, cond_both}
 use Rattle.std.specs.Prelude.{◌&&◌}
 use Rattle.job_desk.specs.Data.{Data, File, Line, script_lines, moment_after}
 use Rattle.job_desk.specs.Table.{connect_at, disconnect_at, select_at, drop_file_step, is_named, printing, pause_at, resume_at, toggle_at, cancel_at, manual_at, add_manual, take_manual, is_stop}
-use Rattle.job_desk.specs.Pull.{Drawn, draw_in_order, nothing, next_number, keep_number, issue, from_scripts, from_manual, from_poll, poll_is_due, from_file, draw_last, draw_at, is_issued, settle_at, pull_step}
-use Rattle.job_desk.specs.Note.{Noted, after_ending, is_over, end_at, finish, leave, hung_up, fail, ready_at, after_open, note_fact, note_step}
+use Rattle.job_desk.specs.Pull.{Drawn, draw_in_order, nothing, next_number, keep_number, issue, from_scripts, from_manual, from_poll, poll_is_due, from_probe, probe_is_due, from_file, draw_last, draw_at, is_issued, settle_at, pull_step}
+use Rattle.job_desk.specs.Note.{Noted, after_ending, is_over, end_at, finish, leave, hung_up, fail, ready_at, after_open, note_fact, note_step, with_acked}
 use Rattle.job_desk.specs.Course.{job_line}
 use Rattle.job_desk.specs.Run.{is_of, print_lines}
 use Rattle.job_desk.specs.declared.state.State.{State}
@@ -139,7 +139,8 @@ module _ (p : ℕ) where
   choose_drawn false x y hx hy = hy
 
   foreign-keep : (tag : Tag) (number : ℕ) (d : Data) → ForeignTo p d → ForeignTo p (keep_number tag number d)
-  foreign-keep (Script at print) number d f = cond_both (nat_eq print 0) d (record d { print_line = number }) (λ e. ForeignTo p e) (λ _. f) (λ _. f)
+  foreign-keep (Script at print) number d f = cond_both (nat_eq print 0) (record d { last_line = number }) (record d { print_line = number; last_line = number })
+      (λ e. ForeignTo p e) (λ _. f) (λ _. f)
   foreign-keep (Job print index) number d f = f
   foreign-keep Manual number d f = f
   foreign-keep Poll number d f = f
@@ -170,6 +171,11 @@ module _ (p : ℕ) where
       choose_drawn (poll_is_due moment d) _ next (foreign-issue (record { text = codes "M105"; tag = Poll })
       (record d { poll_at = moment_after moment d.poll_ms }) refl f) h
 
+  foreign-probe : (awaited moment : ℕ) (d : Data) → ForeignTo p d → ForeignDrawn (from_probe awaited moment d)
+  foreign-probe awaited moment d f =
+      choose_drawn (probe_is_due awaited moment d) _ (nothing d) (foreign-issue (record { text = codes "M400"; tag = Poll })
+      (record d { probe_at = moment_after moment d.poll_ms }) refl f) (f, tt)
+
   foreign-file : (text : Option (List ℕ)) (d : Data) → nat_eq d.greatest p ≡ false → ForeignTo p d → ForeignDrawn (from_file text d)
   foreign-file None d e f = (f, tt)
   foreign-file (Some text) d e f = foreign-issue (job_line d.greatest d.cursor text) (record d { cursor = d.cursor + 1 }) e f
@@ -177,20 +183,20 @@ module _ (p : ℕ) where
   foreign-talk : (moment : ℕ) (d : Data) (next : Drawn) → ForeignTo p d → ForeignDrawn next → ForeignDrawn (draw_in_order moment d next)
   foreign-talk moment d next f h = foreign-scripts d.waiting d _ refl f (foreign-from_manual d.manual d _ f (foreign-poll moment d next f h))
 
-  foreign-last : (b : Bool) (d : Data) → ForeignTo p d → ForeignDrawn (draw_last b d)
-  foreign-last false d f = foreign-scripts d.waiting d (nothing d) refl f (f, tt)
-  foreign-last true d f = foreign-from_manual d.manual d (nothing d) f (f, tt)
+  foreign-last : (b : Bool) (moment : ℕ) (d : Data) → ForeignTo p d → ForeignDrawn (draw_last b moment d)
+  foreign-last false moment d f = foreign-scripts d.waiting d _ refl f (foreign-probe d.last_line moment d f)
+  foreign-last true moment d f = foreign-from_manual d.manual d (nothing d) f (f, tt)
 
   foreign-draw : (s : State) (moment : ℕ) (d : Data) → d.state ≡ s → ForeignTo p d → ForeignDrawn (draw_at s moment d)
   foreign-draw Offline moment d e f = (f, tt)
   foreign-draw Connecting moment d e f = (f, tt)
-  foreign-draw Operational moment d e f = foreign-talk moment d (nothing d) f (f, tt)
+  foreign-draw Operational moment d e f = foreign-talk moment d _ f (foreign-probe d.issued moment d f)
   foreign-draw Printing moment d e f = foreign-talk moment d _ f (foreign-file _ d (other_print d Printing e (λ h. h) f) f)
-  foreign-draw Pausing moment d e f = foreign-talk moment d (nothing d) f (f, tt)
-  foreign-draw Paused moment d e f = foreign-talk moment d (nothing d) f (f, tt)
-  foreign-draw Cancelling moment d e f = foreign-talk moment d (nothing d) f (f, tt)
-  foreign-draw Finishing moment d e f = foreign-talk moment d (nothing d) f (f, tt)
-  foreign-draw Closing moment d e f = foreign-last d.stopped d f
+  foreign-draw Pausing moment d e f = foreign-talk moment d _ f (foreign-probe d.issued moment d f)
+  foreign-draw Paused moment d e f = foreign-talk moment d _ f (foreign-probe d.issued moment d f)
+  foreign-draw Cancelling moment d e f = foreign-talk moment d _ f (foreign-probe d.issued moment d f)
+  foreign-draw Finishing moment d e f = foreign-talk moment d _ f (foreign-probe d.issued moment d f)
+  foreign-draw Closing moment d e f = foreign-last d.stopped moment d f
   foreign-draw Fault moment d e f = (f, tt)
 
   pub foreign-settle : (s : State) (d : Data) → d.state ≡ s → ForeignTo p d → ForeignTo p (settle_at s d)
@@ -258,7 +264,7 @@ module _ (p : ℕ) where
 
   pub foreign-note : nat_eq 0 p ≡ false → (acked : ℕ) (f : LinkFact) (moment : ℕ) (d : Data) → ForeignTo p d → ForeignNoted (note_step acked f moment d)
   foreign-note z acked f moment d h =
-      let told : Data = record d { acked = acked } in
+      let told : Data = with_acked acked moment d in
       let noted : Noted = note_fact f moment told in
       let g = foreign-fact z f moment told h in
       (foreign-settle noted.1.state noted.1 refl g.0, g.1)

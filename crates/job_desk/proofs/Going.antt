@@ -2,9 +2,9 @@
 use Rattle.std.proofs.Common.{◌≡◌, ℕ, ◌+◌, ◌≤◌, Bool, true, false, cond, nat_eq, codes, List, [], ◌∷◌, Option, None, Some, refl, sym, ◌∙◌, ap, subst}
 use Rattle.std.proofs.lemmas.Bool.{false≢true}
 use Rattle.job_desk.specs.Data.{Data, Line, with_script, moment_after}
-use Rattle.job_desk.specs.Pull.{Drawn, draw_in_order, nothing, next_number, keep_number, issue, from_scripts, from_manual, from_poll, poll_is_due, from_file, draw_last, draw_at, is_issued, settle_at, settled, pull_step}
+use Rattle.job_desk.specs.Pull.{Drawn, draw_in_order, draw_idle, nothing, next_number, keep_number, issue, from_scripts, from_manual, from_poll, poll_is_due, from_probe, probe_is_due, from_file, draw_last, draw_at, is_issued, settle_at, settled, pull_step}
 use Rattle.job_desk.specs.Course.{job_line}
-use Rattle.job_desk.specs.Note.{Noted, after_ending, is_over, end_at, finish, leave, hung_up, fail, ready_at, after_open, note_fact, note_step}
+use Rattle.job_desk.specs.Note.{Noted, after_ending, is_over, end_at, finish, leave, hung_up, fail, ready_at, after_open, note_fact, note_step, with_acked}
 use Rattle.job_desk.specs.Endings.{has_print, IsActive}
 use Rattle.job_desk.specs.declared.state.State.{State}
 use Rattle.job_desk.specs.declared.state.State.TheVariants.{Offline, Connecting, Operational, Printing, Pausing, Paused, Cancelling, Finishing, Closing, Fault}
@@ -61,7 +61,7 @@ moves d e has stays = record { going = λ g other. (stays ∙ g has); before = �
 stays_keep : (tag : Tag) (number : ℕ) (d : Data) → Stays d (keep_number tag number d)
 stays_keep (Script at print) number d = choose (nat_eq print 0)
   where
-    choose : (b : Bool) → Stays d (cond b d (record d { print_line = number }))
+    choose : (b : Bool) → Stays d (cond b (record d { last_line = number }) (record d { print_line = number; last_line = number }))
     choose true = (refl, refl)
     choose false = (refl, refl)
 stays_keep (Job print index) number d = (refl, refl)
@@ -86,6 +86,12 @@ stays_poll moment d next h =
     let asked : Data = record d { poll_at = moment_after moment d.poll_ms } in
     choose_pair {X = Option Line} (λ e. Stays d e) (poll_is_due moment d) _ next (stays_issue (record { text = codes "M105"; tag = Poll }) d asked (refl, refl)) h
 
+stays_probe : (awaited moment : ℕ) (d : Data) → Stays d (from_probe awaited moment d).1
+stays_probe awaited moment d =
+    let asked : Data = record d { probe_at = moment_after moment d.poll_ms } in
+    choose_pair {X = Option Line} (λ e. Stays d e) (probe_is_due awaited moment d) _ _
+    (stays_issue (record { text = codes "M400"; tag = Poll }) d asked (refl, refl)) (refl, refl)
+
 stays_file : (text : Option (List ℕ)) (d : Data) → Stays d (from_file text d).1
 stays_file None d = (refl, refl)
 stays_file (Some text) d = stays_issue (job_line d.greatest d.cursor text) d (record d { cursor = d.cursor + 1 }) (refl, refl)
@@ -93,18 +99,18 @@ stays_file (Some text) d = stays_issue (job_line d.greatest d.cursor text) d (re
 stays_talk : (moment : ℕ) (d : Data) (next : Drawn) → Stays d next.1 → Stays d (draw_in_order moment d next).1
 stays_talk moment d next h = stays_scripts d.waiting d _ (stays_manual d.manual d _ (stays_poll moment d next h))
 
-stays_last : (b : Bool) (d : Data) → Stays d (draw_last b d).1
-stays_last false d = stays_scripts d.waiting d (nothing d) (refl, refl)
-stays_last true d = stays_manual d.manual d (nothing d) (refl, refl)
+stays_last : (b : Bool) (moment : ℕ) (d : Data) → Stays d (draw_last b moment d).1
+stays_last false moment d = stays_scripts d.waiting d _ (stays_probe d.last_line moment d)
+stays_last true moment d = stays_manual d.manual d (nothing d) (refl, refl)
 
 stays_draw : (s : State) (moment : ℕ) (d : Data) → Stays d (draw_at s moment d).1
-stays_draw Operational moment d = stays_talk moment d (nothing d) (refl, refl)
+stays_draw Operational moment d = stays_talk moment d _ (stays_probe d.issued moment d)
 stays_draw Printing moment d = stays_talk moment d _ (stays_file _ d)
-stays_draw Pausing moment d = stays_talk moment d (nothing d) (refl, refl)
-stays_draw Paused moment d = stays_talk moment d (nothing d) (refl, refl)
-stays_draw Cancelling moment d = stays_talk moment d (nothing d) (refl, refl)
-stays_draw Finishing moment d = stays_talk moment d (nothing d) (refl, refl)
-stays_draw Closing moment d = stays_last d.stopped d
+stays_draw Pausing moment d = stays_talk moment d _ (stays_probe d.issued moment d)
+stays_draw Paused moment d = stays_talk moment d _ (stays_probe d.issued moment d)
+stays_draw Cancelling moment d = stays_talk moment d _ (stays_probe d.issued moment d)
+stays_draw Finishing moment d = stays_talk moment d _ (stays_probe d.issued moment d)
+stays_draw Closing moment d = stays_last d.stopped moment d
 stays_draw _ moment d = (refl, refl)
 
 goes_settle : (s : State) (d : Data) → d.state ≡ s → Goes d (settle_at s d)
@@ -155,7 +161,7 @@ goes_fact (fact.Ended end) moment d = goes_fail d (after_ending d)
 
 pub goes_note : (acked : ℕ) (f : LinkFact) (moment : ℕ) (d : Data) → Goes d (note_step acked f moment d).1
 goes_note acked f moment d =
-    let counted : Data = record d { acked = acked } in
+    let counted : Data = with_acked acked moment d in
     let noted : Noted = note_fact f moment counted in
     goes_then d noted.1 (settled noted.1) (goes_then d counted noted.1 (goes_stays d counted (refl, refl)) (goes_fact f moment counted))
     (goes_settle noted.1.state noted.1 refl)
@@ -169,20 +175,26 @@ free_manual : (acked : ℕ) (m : List (List ℕ)) (d : Data) (next : Drawn) → 
 free_manual acked [] d next free rest = rest
 free_manual acked (text ∷ texts) d next free rest = record { no_print = free.no_print; no_script = free.no_script; last_line = free.last_line }
 
-free_talk : (acked moment : ℕ) (d : Data) → IsFree acked d → IsFree acked (draw_in_order moment d (nothing d)).1
+free_probe : (acked awaited moment : ℕ) (d : Data) → IsFree acked d → IsFree acked (from_probe awaited moment d).1
+free_probe acked awaited moment d free =
+    choose_pair {X = Option Line} (λ e. IsFree acked e) (probe_is_due awaited moment d) (issue (record { text = codes "M400"; tag = Poll })
+    (record d { probe_at = moment_after moment d.poll_ms })) (nothing d)
+    (record { no_print = free.no_print; no_script = free.no_script; last_line = free.last_line }) free
+
+free_talk : (acked moment : ℕ) (d : Data) → IsFree acked d → IsFree acked (draw_idle moment d).1
 free_talk acked moment d free =
     free_scripts acked d.waiting d _ free.no_script
     (free_manual acked d.manual d _ free
     (choose_pair {X = Option Line} (λ e. IsFree acked e) (poll_is_due moment d) (issue (record { text = codes "M105"; tag = Poll })
-    (record d { poll_at = moment_after moment d.poll_ms })) (nothing d)
-    (record { no_print = free.no_print; no_script = free.no_script; last_line = free.last_line }) free))
+    (record d { poll_at = moment_after moment d.poll_ms })) (from_probe d.issued moment d)
+    (record { no_print = free.no_print; no_script = free.no_script; last_line = free.last_line }) (free_probe acked d.issued moment d free)))
 
 has_none : (X : Type 0) (acked : ℕ) (d : Data) (s : State) → d.state ≡ s → has_print s ≡ true → IsFree acked d → X
 has_none X acked d s e has free = absurd (false≢true (sym free.no_print ∙ ap has_print e ∙ has))
 
-free_last : (acked : ℕ) (b : Bool) (d : Data) → IsFree acked d → IsFree acked (draw_last b d).1
-free_last acked false d free = free_scripts acked d.waiting d (nothing d) free.no_script free
-free_last acked true d free = free_manual acked d.manual d (nothing d) free free
+free_last : (acked : ℕ) (b : Bool) (moment : ℕ) (d : Data) → IsFree acked d → IsFree acked (draw_last b moment d).1
+free_last acked false moment d free = free_scripts acked d.waiting d _ free.no_script (free_probe acked d.last_line moment d free)
+free_last acked true moment d free = free_manual acked d.manual d (nothing d) free free
 
 free_draw : (acked : ℕ) (s : State) (moment : ℕ) (d : Data) → d.state ≡ s → IsFree acked d → IsFree acked (draw_at s moment d).1
 free_draw acked Operational moment d e free = free_talk acked moment d free
@@ -191,7 +203,7 @@ free_draw acked Pausing moment d e free = has_none _ acked d Pausing e refl free
 free_draw acked Paused moment d e free = has_none _ acked d Paused e refl free
 free_draw acked Cancelling moment d e free = has_none _ acked d Cancelling e refl free
 free_draw acked Finishing moment d e free = has_none _ acked d Finishing e refl free
-free_draw acked Closing moment d e free = free_last acked d.stopped d free
+free_draw acked Closing moment d e free = free_last acked d.stopped moment d free
 free_draw acked _ moment d e free = free
 
 pub free_pull : (acked moment : ℕ) (d : Data) → IsFree acked d → IsFree acked (pull_step moment d).1
@@ -212,7 +224,7 @@ free_fail acked (Some ending, t) line = record { no_print = refl; no_script = re
 
 pub free_failed : (acked moment : ℕ) (d : Data) → IsFree acked d → IsFree acked (note_step acked fact.Failed moment d).1
 free_failed acked moment d free =
-    let counted : Data = record d { acked = acked } in
+    let counted : Data = with_acked acked moment d in
     let L : ℕ → Type 0 = λ n. n ≤ acked in
     let line : (after_ending counted).1.print_line ≤ acked = subst L (sym (end_line d.state counted)) free.last_line in
     free_fail acked (after_ending counted) line

@@ -10,6 +10,7 @@ pub mod Lines
 pub mod Lists
 pub mod Noted
 pub mod Plain
+pub mod Probes
 pub mod Quiet
 pub mod Runs
 pub mod Settled

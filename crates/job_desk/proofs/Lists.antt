@@ -28,6 +28,11 @@ pub poll_sendable : IsSendable (codes "M105")
 unfolding has_byte has_m110
 poll_sendable = record { some = lit≤ tt; short = lit≤ tt; no_star = refl; no_line_feed = refl; no_m110 = refl }
 
+-- and so may the probe
+pub probe_sendable : IsSendable (codes "M400")
+unfolding has_byte has_m110
+probe_sendable = record { some = lit≤ tt; short = lit≤ tt; no_star = refl; no_line_feed = refl; no_m110 = refl }
+
 pub drop_sendable : (texts : List (ArrayVec ℕ)) → All IsSendable (map (λ t. t.items) texts) → All IsSendable (map (λ t. t.items) (drop 1 texts))
 drop_sendable [] all = all
 drop_sendable (t ∷ texts) all = All-tail IsSendable t.items (map (λ t. t.items) texts) all

@@ -3,7 +3,7 @@ use Rattle.std.proofs.Common.{◌≡◌, inr, ℕ, Bool, true, false, cond, nat_
 use Rattle.std.proofs.lemmas.Bool.{false≢true, and_parts}
 use Rattle.job_desk.specs.Data.{ScriptTexts, Data, Line}
 use Rattle.job_desk.specs.Pull.{settled}
-use Rattle.job_desk.specs.Note.{Noted, after_ending, is_over, end_at, finish, hung_up, fail, ready_at, after_open, note_fact, note_step}
+use Rattle.job_desk.specs.Note.{Noted, after_ending, is_over, end_at, finish, hung_up, fail, ready_at, after_open, note_fact, note_step, with_acked}
 use Rattle.job_desk.specs.Course.{job_line}
 use Rattle.job_desk.specs.Run.{print_lines}
 use Rattle.job_desk.specs.declared.state.State.{State}
@@ -127,6 +127,6 @@ module _ (p : ℕ) (commands : List (List ℕ)) (scripts : ScriptTexts) where
   pub current-note : (acked : ℕ) (f : LinkFact) (out : List Line) (moment : ℕ) (d : Data) → d.scripts ≡ scripts → CurrentTo p commands out d →
       IsNotedAs f out (note_step acked f moment d)
   current-note acked f out moment d k h =
-      let told : Data = record d { acked = acked } in
+      let told : Data = with_acked acked moment d in
       let noted : Noted = note_fact f moment told in
       settles f out noted.0 noted.1 (steady-settle noted.1.state noted.1).scripts (current-fact f out moment told k h)

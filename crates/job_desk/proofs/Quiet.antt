@@ -1,8 +1,9 @@
 -- A quiet note that acknowledges nothing new and leaves the state leaves the whole desk, and ends no print.
-use Rattle.std.proofs.Common.{◌≡◌, ℕ, Bool, true, false, cond, Option, None, refl, sym, ◌∙◌, ap}
-use Rattle.job_desk.specs.Data.{Data, with_script}
+use Rattle.std.proofs.Common.{◌≡◌, ℕ, nat_lt, arith, Bool, true, false, cond, Option, None, refl, sym, ◌∙◌, ap}
+use Rattle.std.proofs.lemmas.Bool.Decides.{nat_tests}
+use Rattle.job_desk.specs.Data.{Data, with_script, moment_after}
 use Rattle.job_desk.specs.Pull.{is_issued, settle_at, settled}
-use Rattle.job_desk.specs.Note.{Noted, is_over, end_at, finish, note_step}
+use Rattle.job_desk.specs.Note.{Noted, is_over, end_at, finish, note_fact, note_step, with_acked}
 use Rattle.job_desk.specs.declared.state.State.{State}
 use Rattle.job_desk.specs.declared.state.State.TheVariants.{Offline, Connecting, Operational, Printing, Pausing, Paused, Cancelling, Finishing, Closing, Fault}
 use Rattle.job_desk.specs.declared.state.Point.TheVariants as point
@@ -48,12 +49,22 @@ module _ (d : Data) where
   same_at Closing e keeps = (refl, idle_at Closing e refl)
   same_at Fault e keeps = (refl, idle_at Fault e refl)
 
+-- a count that doesn't rise leaves the desk
+none_more : (n : ℕ) → nat_lt n n ≡ false
+none_more n = grind (arith, nat_tests)
+
+pub counted_again : (moment : ℕ) (d : Data) → with_acked d.acked moment d ≡ d
+counted_again moment d = ap (λ (b : Bool). record d { probe_at = cond b (moment_after moment d.poll_ms) d.probe_at }) (none_more d.acked)
+
 -- the note returns nothing and leaves the desk
 pub quiet_keeps : (moment : ℕ) (d : Data) → (note_step d.acked fact.Quiet moment d).1.state ≡ d.state →
     ◌≡◌ {A = Noted} (note_step d.acked fact.Quiet moment d) (None, d)
-quiet_keeps moment d keeps =
+quiet_keeps moment d goes =
+    let Step : Data → Noted = λ x. (let noted = note_fact fact.Quiet moment x in (noted.0, settled noted.1)) in
+    let again : note_step d.acked fact.Quiet moment d ≡ Step d = ap Step (counted_again moment d) in
+    let keeps : (Step d).1.state ≡ d.state = ap (λ (n : Noted). n.1.state) (sym again) ∙ goes in
     let same = same_at d d.state refl keeps in
     let first : ◌≡◌ {A = Noted} ((end_at d.state d).0, settled (end_at d.state d).1) (None, settled (end_at d.state d).1) =
     ap (λ (gave : Option Ending). (gave, settled (end_at d.state d).1)) same.0 in
     let second : ◌≡◌ {A = Noted} (None, settled (end_at d.state d).1) (None, d) = ap (λ (e : Data). (None, e)) same.1 in
-    first ∙ second
+    again ∙ first ∙ second

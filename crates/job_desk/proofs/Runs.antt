@@ -4,7 +4,7 @@ use Rattle.temp_rules.specs.declared.job.HotLine.{HotLine}
 use Rattle.temp_rules.specs.Hot.{first_hot_of}
 use Rattle.job_desk.specs.Data.{ScriptTexts, Data, File, Line}
 use Rattle.job_desk.specs.Table.{start_at, start_checked, start_file, restart_at, printing}
-use Rattle.job_desk.specs.Pull.{Drawn, draw_in_order, nothing, from_scripts, from_manual, poll_is_due, from_file, draw_last, draw_at, pull_step}
+use Rattle.job_desk.specs.Pull.{Drawn, draw_in_order, nothing, from_scripts, from_manual, poll_is_due, from_probe, probe_is_due, from_file, draw_last, draw_at, pull_step}
 use Rattle.job_desk.specs.Note.{note_step}
 use Rattle.job_desk.specs.declared.state.State.{State}
 use Rattle.job_desk.specs.declared.state.State.TheVariants.{Operational, Printing, Pausing, Paused, Cancelling, Finishing, Closing}
@@ -84,18 +84,21 @@ module _ (scripts : ScriptTexts) where
   well_file None d = tt
   well_file (Some text) d = refl
 
-  well_last : (b : Bool) (d : Data) → AreScripts d.waiting → IsDrawnWell Closing (draw_last b d).0
-  well_last false d a = well_scripts Closing d.waiting d (nothing d) a tt
-  well_last true d a = well_manual Closing d.manual d (nothing d) tt
+  well_probe : (s : State) (awaited moment : ℕ) (d : Data) → IsDrawnWell s (from_probe awaited moment d).0
+  well_probe s awaited moment d = choose_well s (probe_is_due awaited moment d) _ (nothing d) tt tt
+
+  well_last : (b : Bool) (moment : ℕ) (d : Data) → AreScripts d.waiting → IsDrawnWell Closing (draw_last b moment d).0
+  well_last false moment d a = well_scripts Closing d.waiting d _ a (well_probe Closing d.last_line moment d)
+  well_last true moment d a = well_manual Closing d.manual d (nothing d) tt
 
   well_draw : (s : State) (moment : ℕ) (d : Data) → AreScripts d.waiting → IsDrawnWell s (draw_at s moment d).0
-  well_draw Operational moment d a = well_talk Operational moment d (nothing d) a tt
+  well_draw Operational moment d a = well_talk Operational moment d _ a (well_probe Operational d.issued moment d)
   well_draw Printing moment d a = well_talk Printing moment d _ a (well_file _ d)
-  well_draw Pausing moment d a = well_talk Pausing moment d (nothing d) a tt
-  well_draw Paused moment d a = well_talk Paused moment d (nothing d) a tt
-  well_draw Cancelling moment d a = well_talk Cancelling moment d (nothing d) a tt
-  well_draw Finishing moment d a = well_talk Finishing moment d (nothing d) a tt
-  well_draw Closing moment d a = well_last d.stopped d a
+  well_draw Pausing moment d a = well_talk Pausing moment d _ a (well_probe Pausing d.issued moment d)
+  well_draw Paused moment d a = well_talk Paused moment d _ a (well_probe Paused d.issued moment d)
+  well_draw Cancelling moment d a = well_talk Cancelling moment d _ a (well_probe Cancelling d.issued moment d)
+  well_draw Finishing moment d a = well_talk Finishing moment d _ a (well_probe Finishing d.issued moment d)
+  well_draw Closing moment d a = well_last d.stopped moment d a
   well_draw _ moment d a = tt
 
   sound_pull : (state : State) (run : Run) (line : Option Line) (e : Data) → Steady run.desk e → IsDrawnWell state line → Sound scripts run →
@@ -153,10 +156,11 @@ module _ (scripts : ScriptTexts) where
       (subst (λ f. Story scripts p (k.commands ∷ []) (pulled_of p run.pulled) f) (sym k.no_fate) (going k.commands (pulled_of p run.pulled) b))
   tells p positive run s (inr (inr k)) = k.story
 
-pub every_run : (scripts : ScriptTexts) (limits : Limits) (poll_ms : ℕ) (calls : List DeskCall) → MayCallAll calls (new_run (new_desk scripts limits poll_ms)) →
-    HasStories scripts (run_of calls (new_run (new_desk scripts limits poll_ms)))
-every_run scripts limits poll_ms calls may =
-    let first = new_run (new_desk scripts limits poll_ms) in
+pub every_run : (scripts : ScriptTexts) (limits : Limits) (poll_ms : ℕ) (numbered : Bool) (calls : List DeskCall) →
+    MayCallAll calls (new_run (new_desk scripts limits poll_ms numbered)) →
+    HasStories scripts (run_of calls (new_run (new_desk scripts limits poll_ms numbered)))
+every_run scripts limits poll_ms numbered calls may =
+    let first = new_run (new_desk scripts limits poll_ms numbered) in
     let sound : Sound scripts first = record { same = refl; waiting = tt; pulled = All-nil (λ (one : Pulled). IsPulledWell one.line.tag one.state) } in
     let last = sound_run scripts calls first sound in
     record {

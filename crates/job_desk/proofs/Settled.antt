@@ -1,8 +1,8 @@
 -- What is left to settle after a pull or a note.
 use Rattle.std.proofs.Common.{◌≡◌, ℕ, Bool, true, false, cond, codes, List, [], ◌∷◌, Option, None, Some, refl, ◌∙◌, ap}
 use Rattle.job_desk.specs.Data.{Data, Line, with_script, moment_after}
-use Rattle.job_desk.specs.Pull.{Drawn, draw_in_order, nothing, issue, from_scripts, from_manual, poll_is_due, from_file, draw_last, draw_at, is_issued, settle_at, settled}
-use Rattle.job_desk.specs.Note.{note_fact}
+use Rattle.job_desk.specs.Pull.{Drawn, draw_in_order, nothing, issue, from_scripts, from_manual, poll_is_due, probe_is_due, from_probe, from_file, draw_last, draw_at, is_issued, settle_at, settled}
+use Rattle.job_desk.specs.Note.{note_fact, with_acked}
 use Rattle.job_desk.specs.Course.{job_line}
 use Rattle.job_desk.specs.declared.state.State.{State}
 use Rattle.job_desk.specs.declared.state.State.TheVariants.{Offline, Connecting, Operational, Printing, Pausing, Paused, Cancelling, Finishing, Closing, Fault}
@@ -55,23 +55,28 @@ idle_talk : (moment : ℕ) (d : Data) (next : Drawn) → Idle d next → Idle d 
 idle_talk moment d next h = idle_scripts d.waiting d _ (idle_manual d.manual d _
     (idle_choice (poll_is_due moment d) (record { text = codes "M105"; tag = Poll }) d (record d { poll_at = moment_after moment d.poll_ms }) next h))
 
-idle_last : (b : Bool) (d : Data) → Idle d (draw_last b d)
-idle_last false d = idle_scripts d.waiting d (nothing d) (λ e. refl)
-idle_last true d = idle_manual d.manual d (nothing d) (λ e. refl)
+idle_probe : (awaited moment : ℕ) (d : Data) → Idle d (from_probe awaited moment d)
+idle_probe awaited moment d =
+    idle_choice (probe_is_due awaited moment d) (record { text = codes "M400"; tag = Poll }) d (record d { probe_at = moment_after moment d.poll_ms })
+    (nothing d) (λ e. refl)
+
+idle_last : (b : Bool) (moment : ℕ) (d : Data) → Idle d (draw_last b moment d)
+idle_last false moment d = idle_scripts d.waiting d _ (idle_probe d.last_line moment d)
+idle_last true moment d = idle_manual d.manual d (nothing d) (λ e. refl)
 
 idle_draw : (s : State) (moment : ℕ) (d : Data) → Idle d (draw_at s moment d)
-idle_draw Operational moment d = idle_talk moment d (nothing d) (λ e. refl)
+idle_draw Operational moment d = idle_talk moment d _ (idle_probe d.issued moment d)
 idle_draw Printing moment d = idle_talk moment d _ (idle_file _ d)
-idle_draw Pausing moment d = idle_talk moment d (nothing d) (λ e. refl)
-idle_draw Paused moment d = idle_talk moment d (nothing d) (λ e. refl)
-idle_draw Cancelling moment d = idle_talk moment d (nothing d) (λ e. refl)
-idle_draw Finishing moment d = idle_talk moment d (nothing d) (λ e. refl)
-idle_draw Closing moment d = idle_last d.stopped d
+idle_draw Pausing moment d = idle_talk moment d _ (idle_probe d.issued moment d)
+idle_draw Paused moment d = idle_talk moment d _ (idle_probe d.issued moment d)
+idle_draw Cancelling moment d = idle_talk moment d _ (idle_probe d.issued moment d)
+idle_draw Finishing moment d = idle_talk moment d _ (idle_probe d.issued moment d)
+idle_draw Closing moment d = idle_last d.stopped moment d
 idle_draw _ moment d = λ e. refl
 
 pub settled_by_steps : IsSettledBySteps
 settled_by_steps = record {
   by_pull = λ moment d. settle_again (draw_at d.state moment d).1.state (draw_at d.state moment d).1 refl;
-  by_note = λ acked f moment d. (let noted = note_fact f moment (record d { acked = acked }) in settle_again noted.1.state noted.1 refl);
+  by_note = λ acked f moment d. (let noted = note_fact f moment (with_acked acked moment d) in settle_again noted.1.state noted.1 refl);
   idle_pull = λ moment d s e. (ap (λ x. settled x) (idle_draw d.state moment d e) ∙ s);
 }

@@ -4,9 +4,9 @@ use Rattle.std.proofs.Common.{◌+◌, codes}
 use Rattle.std.specs.Prelude.{◌&&◌}
 use Rattle.job_desk.specs.Data.{moment_after, Data, File, Line, tagged, texts_at, script_lines, with_script}
 use Rattle.job_desk.specs.Table.{connect_at, disconnect_at, select_at, drop_file_step, is_named, pause_at, resume_at, toggle_at, cancel_at, manual_at, add_manual, take_manual, is_stop, stopping}
-use Rattle.job_desk.specs.Pull.{Drawn, draw_in_order, nothing, next_number, keep_number, issue, from_scripts, from_manual, from_poll, poll_is_due, from_file, draw_last, draw_at, is_issued, settle_at, settled, pull_step}
+use Rattle.job_desk.specs.Pull.{Drawn, draw_in_order, nothing, next_number, keep_number, issue, from_scripts, from_manual, from_poll, poll_is_due, from_probe, probe_is_due, from_file, draw_last, draw_at, is_issued, settle_at, settled, pull_step}
 use Rattle.job_desk.specs.Course.{job_line}
-use Rattle.job_desk.specs.Note.{Noted, after_ending, is_over, end_at, leave, hung_up, fail, ready_at, after_open, note_fact, note_step}
+use Rattle.job_desk.specs.Note.{Noted, after_ending, is_over, end_at, leave, hung_up, fail, ready_at, after_open, note_fact, note_step, with_acked}
 use Rattle.job_desk.specs.declared.state.State.{State}
 use Rattle.job_desk.specs.declared.state.State.TheVariants.{Offline, Connecting, Operational, Printing, Pausing, Paused, Cancelling, Finishing, Closing, Fault}
 use Rattle.job_desk.specs.declared.state.Point.{Point}
@@ -142,9 +142,10 @@ steady-manual _ lines d = same d
 
 steady-keep : (tag : Tag) (number : ℕ) (d : Data) → Steady d (keep_number tag number d)
 steady-keep (Script point print) number d =
-    cond_both (nat_eq print 0) d (record d { print_line = number }) (λ e. Steady d e) (λ _. same d) (λ _. alike d _ (refl, refl, refl))
+    cond_both (nat_eq print 0) (record d { last_line = number }) (record d { print_line = number; last_line = number }) (λ e. Steady d e)
+    (λ _. alike d _ (refl, refl, refl)) (λ _. alike d _ (refl, refl, refl))
 steady-keep (Job print index) number d = alike d _ (refl, refl, refl)
-steady-keep Manual number d = same d
+steady-keep Manual number d = alike d _ (refl, refl, refl)
 steady-keep Poll number d = alike d _ (refl, refl, refl)
 
 steady-issue : (line : Line) (d e : Data) → Steady d e → Steady d (issue line e).1
@@ -171,6 +172,12 @@ steady-poll moment d next h =
     choose_pair (λ e. Steady d e) (poll_is_due moment d) _ next (steady-issue (record { text = codes "M105"; tag = Poll }) d asked
     (alike d asked (refl, refl, refl))) h
 
+steady-probe : (awaited moment : ℕ) (d : Data) → Steady d (from_probe awaited moment d).1
+steady-probe awaited moment d =
+    let asked : Data = record d { probe_at = moment_after moment d.poll_ms } in
+    choose_pair (λ e. Steady d e) (probe_is_due awaited moment d) _ _ (steady-issue (record { text = codes "M400"; tag = Poll }) d asked
+    (alike d asked (refl, refl, refl))) (same d)
+
 steady-file : (text : Option (List ℕ)) (d : Data) → Steady d (from_file text d).1
 steady-file None d = same d
 steady-file (Some text) d = steady-issue (job_line d.greatest d.cursor text) d (record d { cursor = d.cursor + 1 }) (alike d _ (refl, refl, refl))
@@ -178,18 +185,18 @@ steady-file (Some text) d = steady-issue (job_line d.greatest d.cursor text) d (
 steady-talk : (moment : ℕ) (d : Data) (next : Drawn) → Steady d next.1 → Steady d (draw_in_order moment d next).1
 steady-talk moment d next h = steady-scripts d.waiting d _ refl (steady-from_manual d.manual d _ (steady-poll moment d next h))
 
-steady-last : (b : Bool) (d : Data) → Steady d (draw_last b d).1
-steady-last false d = steady-scripts d.waiting d (nothing d) refl (same d)
-steady-last true d = steady-from_manual d.manual d (nothing d) (same d)
+steady-last : (b : Bool) (moment : ℕ) (d : Data) → Steady d (draw_last b moment d).1
+steady-last false moment d = steady-scripts d.waiting d _ refl (steady-probe d.last_line moment d)
+steady-last true moment d = steady-from_manual d.manual d (nothing d) (same d)
 
 steady-draw : (s : State) (moment : ℕ) (d : Data) → Steady d (draw_at s moment d).1
-steady-draw Operational moment d = steady-talk moment d (nothing d) (same d)
+steady-draw Operational moment d = steady-talk moment d _ (steady-probe d.issued moment d)
 steady-draw Printing moment d = steady-talk moment d _ (steady-file _ d)
-steady-draw Pausing moment d = steady-talk moment d (nothing d) (same d)
-steady-draw Paused moment d = steady-talk moment d (nothing d) (same d)
-steady-draw Cancelling moment d = steady-talk moment d (nothing d) (same d)
-steady-draw Finishing moment d = steady-talk moment d (nothing d) (same d)
-steady-draw Closing moment d = steady-last d.stopped d
+steady-draw Pausing moment d = steady-talk moment d _ (steady-probe d.issued moment d)
+steady-draw Paused moment d = steady-talk moment d _ (steady-probe d.issued moment d)
+steady-draw Cancelling moment d = steady-talk moment d _ (steady-probe d.issued moment d)
+steady-draw Finishing moment d = steady-talk moment d _ (steady-probe d.issued moment d)
+steady-draw Closing moment d = steady-last d.stopped moment d
 steady-draw _ moment d = same d
 
 pub steady-settle : (s : State) (d : Data) → Steady d (settle_at s d)
@@ -221,7 +228,8 @@ steady-fail d (None, e) h = and_then d e _ h (steady-leave Fault outcome.Failed 
 steady-fail d (Some ending, e) h = and_then d e _ h (steady-leave Fault outcome.Failed e)
 
 steady-ready : (s : State) (moment : ℕ) (d : Data) → Steady d (ready_at s moment d)
-steady-ready Connecting moment d = joins point.Connected 0 d (record d { state = Operational; poll_at = moment_after moment d.poll_ms }) (refl, refl, refl)
+steady-ready Connecting moment d = joins point.Connected 0 d
+    (record d { state = Operational; poll_at = moment_after moment d.poll_ms; probe_at = moment_after moment d.poll_ms }) (refl, refl, refl)
 steady-ready _ moment d = same d
 
 steady-fact : (f : LinkFact) (moment : ℕ) (d : Data) → Steady d (note_fact f moment d).1
@@ -238,7 +246,7 @@ steady-fact (fact.Ended end) moment d = steady-fail d (after_ending d) (steady-e
 
 pub steady-note : (acked : ℕ) (f : LinkFact) (moment : ℕ) (d : Data) → Steady d (note_step acked f moment d).1
 steady-note acked f moment d =
-    let told : Data = record d { acked = acked } in
+    let told : Data = with_acked acked moment d in
     let noted : Noted = note_fact f moment told in
     and_then d noted.1 (settled noted.1) (and_then d told noted.1 (alike d told (refl, refl, refl)) (steady-fact f moment told))
     (steady-settle noted.1.state noted.1)

@@ -59,6 +59,8 @@ pub record Data : Type 0 where
   pub scripts : ScriptTexts
   pub limits : Limits
   pub poll_ms : ℕ
+  -- whether the printer's `ok`s have numbers
+  pub numbered : Bool
   pub state : State
   pub port : Option (List ℕ)
   pub file : Option File
@@ -72,12 +74,16 @@ pub record Data : Type 0 where
   pub manual : List (List ℕ)
   -- from this moment on a poll is due
   pub poll_at : ℕ
+  -- and from this one on a probe is due, if something waits for its `ok`
+  pub probe_at : ℕ
   -- how many lines of the session were issued and acknowledged
   pub issued : ℕ
   pub acked : ℕ
   -- the numbers of the print's last issued line and of the last poll, 0 for none
   pub print_line : ℕ
   pub poll_line : ℕ
+  -- the number of the last issued line that is no poll, 0 for none
+  pub last_line : ℕ
   -- whether the end of the connection waits for its script: the hello was acknowledged since the last accepted connect, and no second
   -- disconnect came
   pub ready : Bool
@@ -85,11 +91,12 @@ pub record Data : Type 0 where
   pub stopped : Bool
 
 -- a desk at which nothing was done yet
-abbrev pub new_desk : ScriptTexts → Limits → ℕ → Data
-new_desk scripts limits poll_ms = record {
+abbrev pub new_desk : ScriptTexts → Limits → ℕ → Bool → Data
+new_desk scripts limits poll_ms numbered = record {
   scripts = scripts;
   limits = limits;
   poll_ms = poll_ms;
+  numbered = numbered;
   state = Offline;
   port = None;
   file = None;
@@ -99,10 +106,12 @@ new_desk scripts limits poll_ms = record {
   waiting = [];
   manual = [];
   poll_at = 0;
+  probe_at = 0;
   issued = 0;
   acked = 0;
   print_line = 0;
   poll_line = 0;
+  last_line = 0;
   ready = false;
   stopped = false;
 }

@@ -1,5 +1,5 @@
 -- What the desk makes of what one turn of the link found.
-use Rattle.std.specs.Prelude.{ℕ, Bool, true, false, ◌&&◌, ◌==◌, nat_le, [], length, Option, None, Some, if◌then◌else◌}
+use Rattle.std.specs.Prelude.{ℕ, Bool, true, false, ◌&&◌, ◌==◌, nat_le, nat_lt, [], length, Option, None, Some, if◌then◌else◌}
 use Rattle.job_desk.specs.Data.{Data, with_script, moment_after}
 use Rattle.job_desk.specs.Pull.{settled}
 use Rattle.job_desk.specs.declared.state.State.{State}
@@ -42,12 +42,14 @@ after_ending d = end_at d.state d
 
 -- a new session: nothing was issued in it yet
 abbrev pub after_open : Data → Data
-after_open d = record d { issued = 0; acked = 0; print_line = 0; poll_line = 0 }
+after_open d = record d { issued = 0; acked = 0; print_line = 0; poll_line = 0; last_line = 0 }
 
 -- the hello was acknowledged
 abbrev pub ready_at : State → ℕ → Data → Data
 ready_at Offline moment d = d
-ready_at Connecting moment d = with_script point.Connected 0 (record d { state = Operational; poll_at = moment_after moment d.poll_ms })
+ready_at Connecting moment d =
+    with_script point.Connected 0
+    (record d { state = Operational; poll_at = moment_after moment d.poll_ms; probe_at = moment_after moment d.poll_ms })
 ready_at Operational moment d = d
 ready_at Printing moment d = d
 ready_at Pausing moment d = d
@@ -84,9 +86,13 @@ note_fact fact.NoPort moment d = leave Fault outcome.Failed d
 note_fact fact.Failed moment d = fail (after_ending d)
 note_fact (fact.Ended end) moment d = fail (after_ending d)
 
+-- the acknowledged lines are counted, and if there are more than before no probe is due for a while
+abbrev pub with_acked : ℕ → ℕ → Data → Data
+with_acked acked moment d = record d { acked = acked; probe_at = if nat_lt d.acked acked then moment_after moment d.poll_ms else d.probe_at }
+
 -- what one note returns and leaves
 abbrev pub note_step : ℕ → LinkFact → ℕ → Data → Noted
-note_step acked fact moment d = let noted = note_fact fact moment (record d { acked = acked }) in (noted.0, settled noted.1)
+note_step acked fact moment d = let noted = note_fact fact moment (with_acked acked moment d) in (noted.0, settled noted.1)
 
 -- the fact that the desk notes before the pulls: a failure comes last, since what was acknowledged before it counts
 abbrev pub first_fact : LinkFact → LinkFact

@@ -1,5 +1,5 @@
 -- The next line to issue.
-use Rattle.std.specs.Prelude.{ℕ, ◌+◌, Bool, true, false, ◌&&◌, ◌==◌, nat_le, min, codes, List, [], ◌∷◌, length, slice_get, Option, None, Some, if◌then◌else◌}
+use Rattle.std.specs.Prelude.{ℕ, ◌+◌, Bool, true, false, ◌&&◌, ◌==◌, nat_le, nat_lt, min, codes, List, [], ◌∷◌, length, slice_get, Option, None, Some, if◌then◌else◌}
 use Rattle.byte_text.specs.Number.{most_u64}
 use Rattle.job_desk.specs.Data.{Data, Line, commands_of, with_script, moment_after}
 use Rattle.job_desk.specs.declared.state.State.{State}
@@ -16,11 +16,12 @@ Drawn = Option Line × Data
 abbrev pub nothing : Data → Drawn
 nothing d = (None, d)
 
--- a print or the poll keeps the number of its last line; print 0 is none
+-- the number of a line is kept: as that of the last poll, or of the last line that is none, and of its print's last one; print 0 is none
 abbrev pub keep_number : Tag → ℕ → Data → Data
-keep_number (Script point print) number d = if print == 0 then d else record d { print_line = number }
-keep_number (Job print index) number d = record d { print_line = number }
-keep_number Manual number d = d
+keep_number (Script point print) number d =
+    if print == 0 then record d { last_line = number } else record d { print_line = number; last_line = number }
+keep_number (Job print index) number d = record d { print_line = number; last_line = number }
+keep_number Manual number d = record d { last_line = number }
 keep_number Poll number d = record d { poll_line = number }
 
 -- the greatest number of a line
@@ -54,6 +55,17 @@ abbrev pub from_poll : ℕ → Data → Drawn → Drawn
 from_poll moment d next =
     if poll_is_due moment d then issue (record { text = codes "M105"; tag = Poll }) (record d { poll_at = moment_after moment d.poll_ms }) else next
 
+-- a printer that numbers its `ok`s is to be probed: one of this many lines isn't acknowledged, and no acknowledgement came since the
+-- last probe for as long as between two polls
+abbrev pub probe_is_due : ℕ → ℕ → Data → Bool
+probe_is_due awaited moment d = d.numbered && (nat_le d.probe_at moment && nat_lt d.acked awaited)
+
+-- a due probe, or else no line: a command that waits for all moves, whose `ok` has a number
+abbrev pub from_probe : ℕ → ℕ → Data → Drawn
+from_probe awaited moment d =
+    if probe_is_due awaited moment d then issue (record { text = codes "M400"; tag = Poll }) (record d { probe_at = moment_after moment d.poll_ms })
+    else nothing d
+
 -- the file command at the cursor, which moves on
 abbrev pub from_file : Option (List ℕ) → Data → Drawn
 from_file None d = nothing d
@@ -63,22 +75,27 @@ from_file (Some text) d = issue (record { text = text; tag = Job d.greatest d.cu
 abbrev pub draw_in_order : ℕ → Data → Drawn → Drawn
 draw_in_order moment d next = from_scripts d.waiting d (from_manual d.manual d (from_poll moment d next))
 
--- what is issued while a connection is being closed: its script, or the line that stops the printer and nothing else
-abbrev pub draw_last : Bool → Data → Drawn
-draw_last false d = from_scripts d.waiting d (nothing d)
-draw_last true d = from_manual d.manual d (nothing d)
+-- scripts, users' lines and a due poll, and else a probe if a line isn't acknowledged
+abbrev pub draw_idle : ℕ → Data → Drawn
+draw_idle moment d = draw_in_order moment d (from_probe d.issued moment d)
+
+-- what is issued while a connection is being closed: its script, and then probes until all lines but the polls are acknowledged, or
+-- the line that stops the printer and nothing else
+abbrev pub draw_last : Bool → ℕ → Data → Drawn
+draw_last false moment d = from_scripts d.waiting d (from_probe d.last_line moment d)
+draw_last true moment d = from_manual d.manual d (nothing d)
 
 -- the line that a desk draws in each state
 abbrev pub draw_at : State → ℕ → Data → Drawn
 draw_at Offline moment d = nothing d
 draw_at Connecting moment d = nothing d
-draw_at Operational moment d = draw_in_order moment d (nothing d)
+draw_at Operational moment d = draw_idle moment d
 draw_at Printing moment d = draw_in_order moment d (from_file (slice_get (commands_of d.file) d.cursor) d)
-draw_at Pausing moment d = draw_in_order moment d (nothing d)
-draw_at Paused moment d = draw_in_order moment d (nothing d)
-draw_at Cancelling moment d = draw_in_order moment d (nothing d)
-draw_at Finishing moment d = draw_in_order moment d (nothing d)
-draw_at Closing moment d = draw_last d.stopped d
+draw_at Pausing moment d = draw_idle moment d
+draw_at Paused moment d = draw_idle moment d
+draw_at Cancelling moment d = draw_idle moment d
+draw_at Finishing moment d = draw_idle moment d
+draw_at Closing moment d = draw_last d.stopped moment d
 draw_at Fault moment d = nothing d
 
 -- all lines of the print but the script for its end were issued

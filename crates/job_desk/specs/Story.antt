@@ -1,5 +1,5 @@
 -- What whole runs of a desk come to.
-use Rattle.std.specs.Prelude.{◌≡◌, ℕ, ◌<◌, List, [], ◌∷◌, ◌++◌, All}
+use Rattle.std.specs.Prelude.{◌≡◌, ℕ, ◌<◌, Bool, List, [], ◌∷◌, ◌++◌, All}
 use Rattle.job_desk.specs.Data.{ScriptTexts, Line, new_desk}
 use Rattle.temp_rules.specs.declared.limits.Limits.{Limits}
 use Rattle.job_desk.specs.Course.{End, Paused, Cancelled, Done, Course}
@@ -47,5 +47,6 @@ pub record HasStories (scripts : ScriptTexts) (run : Run) : Type 0 where
 
 -- the law
 abbrev pub EveryRunHasStories : Type 0
-EveryRunHasStories = (scripts : ScriptTexts) (limits : Limits) (poll_ms : ℕ) (calls : List DeskCall) →
-    MayCallAll calls (new_run (new_desk scripts limits poll_ms)) → HasStories scripts (run_of calls (new_run (new_desk scripts limits poll_ms)))
+EveryRunHasStories = (scripts : ScriptTexts) (limits : Limits) (poll_ms : ℕ) (numbered : Bool) (calls : List DeskCall) →
+    MayCallAll calls (new_run (new_desk scripts limits poll_ms numbered)) →
+    HasStories scripts (run_of calls (new_run (new_desk scripts limits poll_ms numbered)))

@@ -224,10 +224,15 @@ manual_at Finishing lines d = take_manual lines d
 manual_at Closing lines d = last_manual lines d
 manual_at Fault lines d = wrong_state d
 
+-- the line up to which all must be acknowledged before a connection is closed: the last one, or, if `ok`s have numbers, the last one
+-- that is no poll, since a poll's `ok` may have none
+abbrev pub closing_line : Data → ℕ
+closing_line d = if d.numbered then d.last_line else d.issued
+
 -- whether a connection that is being closed may be closed now: its last script is over, or it isn't waited for; or
 -- the line that stops the printer was issued
 abbrev pub is_closable : Bool → Data → Bool
-is_closable false d = ((length d.waiting == 0) && nat_le d.issued d.acked) || not d.ready
+is_closable false d = ((length d.waiting == 0) && nat_le (closing_line d) d.acked) || not d.ready
 is_closable true d = length d.manual == 0
 
 -- whether the line that stops the printer is to be issued next

@@ -3,7 +3,7 @@ ghost use Rattle.std.specs.Prelude.{◌≡◌, ◌≤◌, ◌*◌, IfOk};
 ghost use Rattle.std.specs.Option.{option_map, option_copied};
 ghost use Rattle.job_desk.specs.Data.{new_desk};
 ghost use Rattle.job_desk.specs.Endings.{IsActive};
-ghost use Rattle.job_desk.specs.Table.{active_print, is_closable_at, is_stopping};
+ghost use Rattle.job_desk.specs.Table.{active_print, closing_line, is_closable_at, is_stopping};
 ghost use Rattle.job_desk.specs.Scripts.{most_script_lines, own_lines};
 
 mod allowed;
@@ -48,14 +48,15 @@ struct Prints {
     cursor: usize,
 }
 
-// The lines of a session: how many were issued and acknowledged, and the numbers of the print's last one and of the last
-// poll, 0 for none.
+// The lines of a session: how many were issued and acknowledged, and the numbers of the print's last one, of the last poll
+// and of the last line that is no poll, 0 for none.
 #[derive(Clone, Copy)]
 struct Lines {
     issued: u64,
     acked: u32,
     of_print: u64,
     of_poll: u64,
+    last: u64,
 }
 
 /// The desk of a print host: it says which line is to be issued next, and keeps the states of OctoPrint's printer.
@@ -63,6 +64,8 @@ struct Lines {
 pub struct Desk {
     limits: Limits,
     poll_ms: u64,
+    // Whether the printer's `ok`s have numbers.
+    numbered: bool,
     state: State,
     port: Option<Name>,
     file: Option<Selected>,
@@ -73,6 +76,8 @@ pub struct Desk {
     manual: HeapCircularBuffer<Text>,
     // The moment from which on a poll is due.
     poll_at: u64,
+    // The moment from which on a probe is due, if something waits for its `ok`.
+    probe_at: u64,
     lines: Lines,
     // Whether the end of the connection waits for its script: the hello was acknowledged since the last accepted connect, and no
     // second disconnect came.
@@ -95,19 +100,26 @@ impl Model for Desk {
 
 impl Desk {
     /// A desk that is offline. A poll is due `poll_ms` milliseconds after the last one, at least 1. Fails if out of memory.
+    ///
+    /// If the printer's `ok`s have numbers, a lost `ok` is made good: with nothing else to issue, something unacknowledged, and
+    /// nothing more acknowledged for `poll_ms`, the desk issues the probe `M400`. No probe is waited for when a connection ends.
+    ///
+    /// Source: Marlin, `ADVANCED_OK`, M105 (its reply has no number) and M400 (finish moves).
     pub fn new(
         alloc: Global,
         scripts: Scripts,
         limits: Limits,
         poll_ms: u64,
+        numbered: bool,
     ) -> Result<Desk, AllocError>
         requires { 1 ≤ poll_ms }
-        ensures { IfOk result (λ desk. desk ≡ new_desk scripts limits poll_ms) }
+        ensures { IfOk result (λ desk. desk ≡ new_desk scripts limits poll_ms numbered) }
     {
         let manual = HeapCircularBuffer::with_capacity(alloc, MOST_MANUAL)?;
         Ok(Desk {
             limits,
             poll_ms,
+            numbered,
             state: State::Offline,
             port: None,
             file: None,
@@ -119,11 +131,13 @@ impl Desk {
             waiting: Waiting::new(scripts),
             manual,
             poll_at: 0,
+            probe_at: 0,
             lines: Lines {
                 issued: 0,
                 acked: 0,
                 of_print: 0,
                 of_poll: 0,
+                last: 0,
             },
             ready: false,
             stopped: false,
@@ -209,6 +223,17 @@ impl Desk {
         self.state == State::Closing && self.stopped && self.manual.len() == 1
     }
 
+    // The line up to which all must be acknowledged before a connection is closed.
+    fn closing_line(&self) -> u64
+        ensures { result ≡ closing_line self.now }
+    {
+        if self.numbered {
+            self.lines.last
+        } else {
+            self.lines.issued
+        }
+    }
+
     /// Whether the connection may be closed now. The desk is closing, and one of these holds: the line that stops the printer was
     /// issued; or none is to be, and its last script is over and acknowledged, no hello was acknowledged since the last accepted
     /// connect, or a second disconnect came.
@@ -218,7 +243,7 @@ impl Desk {
         match self.state {
             State::Closing if self.stopped => self.manual.is_empty(),
             State::Closing => {
-                self.waiting.is_empty() && self.lines.issued <= u64::from(self.lines.acked)
+                self.waiting.is_empty() && self.closing_line() <= u64::from(self.lines.acked)
                     || !self.ready
             }
             _ => false,

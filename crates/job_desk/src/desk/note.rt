@@ -1,7 +1,7 @@
 //! What the desk makes of a turn of the link.
 ghost use Rattle.std.specs.Prelude.{◌≡◌, ◌⊎◌, true, false, IfSome};
-ghost use Rattle.job_desk.specs.Endings.{IsEnding};
-ghost use Rattle.job_desk.specs.Note.{after_ending, fail, hung_up, leave, note_fact, note_step, after_open, ready_at};
+ghost use Rattle.job_desk.specs.Endings.{IsActive, IsEnding};
+ghost use Rattle.job_desk.specs.Note.{after_ending, fail, hung_up, leave, note_fact, note_step, after_open, ready_at, with_acked};
 ghost use Rattle.job_desk.specs.DeskViews.{MayNote};
 
 use super::{Desk, Lines, Prints};
@@ -76,6 +76,7 @@ impl Desk {
             acked: 0,
             of_print: 0,
             of_poll: 0,
+            last: 0,
         };
     }
 
@@ -87,6 +88,7 @@ impl Desk {
         if self.state == State::Connecting {
             self.state = State::Operational;
             self.poll_at = moment.saturating_add(self.poll_ms);
+            self.probe_at = self.poll_at;
             self.waiting.add(Point::Connected, 0);
         }
     }
@@ -134,6 +136,17 @@ impl Desk {
         completed.or(broken)
     }
 
+    // This many lines are acknowledged.
+    fn count_acked(&mut self, acked: u32, moment: u64)
+        ensures after { self.new ≡ with_acked acked moment self.old }
+        ensures going { IsActive self.old }
+    {
+        if self.lines.acked < acked {
+            self.probe_at = moment.saturating_add(self.poll_ms);
+        }
+        self.lines.acked = acked;
+    }
+
     /// Notes how many lines of the session are acknowledged and what a turn at this moment, in milliseconds, found of the
     /// link. Returns the ending of the active print if it ends: as Done, and as Cancelled unless the link was hung up, only
     /// once no script line waits and the last issued line of the print is acknowledged. After an ending no print is active.
@@ -144,7 +157,7 @@ impl Desk {
         ensures of_print { IfSome result (λ ending. IsEnding acked fact.now self.old ending) }
         ensures rests { IfSome result (λ ending. self.new.active ≡ false) }
     {
-        self.lines.acked = acked;
+        self.count_acked(acked, moment);
         let ending = self.take_fact(fact, moment);
         self.settle();
         ending

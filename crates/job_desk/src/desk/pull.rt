@@ -3,7 +3,7 @@ ghost use Rattle.std.specs.Prelude.{◌≡◌, length, IfSome, slice_get};
 ghost use Rattle.std.specs.Option.{option_map};
 ghost use Rattle.byte_text.specs.Sendable.{IsSendable};
 ghost use Rattle.job_desk.specs.Data.{commands_of};
-ghost use Rattle.job_desk.specs.Pull.{draw_at, from_file, from_manual, from_poll, from_scripts, keep_number, next_number, poll_is_due, pull_step, settled, draw_in_order};
+ghost use Rattle.job_desk.specs.Pull.{draw_at, from_file, from_manual, from_poll, from_probe, from_scripts, keep_number, next_number, poll_is_due, pull_step, settled, draw_in_order};
 ghost use Rattle.job_desk.specs.Issued.{line_of};
 ghost use Rattle.job_desk.specs.Views.{DrawsFrom};
 
@@ -13,6 +13,9 @@ use byte_text::bounded_text;
 
 // Marlin's question for temperatures.
 const POLL: &[u8] = b"M105";
+
+// A command that waits for all moves, whose `ok` has a number.
+const PROBE: &[u8] = b"M400";
 
 impl Desk {
     // How many commands the selected file has.
@@ -25,7 +28,7 @@ impl Desk {
         }
     }
 
-    // A line gets the next number of the session, which its print or the poll keeps.
+    // A line gets the next number of the session. Its print keeps it, and so does the poll, or what is kept of other lines.
     fn number(&mut self, tag: Tag)
         ensures { self.new ≡ keep_number tag (next_number self.old.issued)
             (record self.old { issued = next_number self.old.issued }) }
@@ -34,12 +37,16 @@ impl Desk {
         self.lines.issued = number;
         match tag {
             Tag::Script { print, .. } => {
+                self.lines.last = number;
                 if print != 0 {
                     self.lines.of_print = number;
                 }
             }
-            Tag::Job { .. } => self.lines.of_print = number,
-            Tag::Manual => {}
+            Tag::Job { .. } => {
+                self.lines.last = number;
+                self.lines.of_print = number;
+            }
+            Tag::Manual => self.lines.last = number,
             Tag::Poll => self.lines.of_poll = number,
         }
     }
@@ -91,6 +98,24 @@ impl Desk {
         })
     }
 
+    // A due probe: one of this many lines isn't acknowledged, and for a while nothing more was.
+    fn take_probe(&mut self, awaited: u64, moment: u64) -> Option<Issued>
+        ensures line { option_map line_of result ≡ (from_probe awaited moment self.old).0 }
+        ensures after { self.new ≡ (from_probe awaited moment self.old).1 }
+        ensures sendable { IfSome result (λ issued. IsSendable issued.text.items) }
+    {
+        let unacknowledged = u64::from(self.lines.acked) < awaited;
+        if !(self.numbered && self.probe_at <= moment && unacknowledged) {
+            return None;
+        }
+        self.probe_at = moment.saturating_add(self.poll_ms);
+        self.number(Tag::Poll);
+        Some(Issued {
+            text: bounded_text(PROBE),
+            tag: Tag::Poll,
+        })
+    }
+
     // The file command at the cursor, which moves on.
     fn take_command(&mut self) -> Option<Issued>
         ensures line { option_map line_of result
@@ -137,12 +162,18 @@ impl Desk {
         match self.state {
             State::Offline | State::Connecting | State::Fault => None,
             State::Closing if self.stopped => self.take_manual(),
-            State::Closing => self.take_script(),
+            State::Closing => match self.take_script() {
+                Some(line) => Some(line),
+                None => self.take_probe(self.lines.last, moment),
+            },
             State::Printing => match self.take_other(moment) {
                 Some(line) => Some(line),
                 None => self.take_command(),
             },
-            _ => self.take_other(moment),
+            _ => match self.take_other(moment) {
+                Some(line) => Some(line),
+                None => self.take_probe(self.lines.issued, moment),
+            },
         }
     }
 

@@ -1,6 +1,7 @@
 //! Worked cases: what is issued around a pause and a cancel.
 use byte_text::Name;
 
+mod probes;
 mod table;
 
 use super::*;
@@ -66,17 +67,17 @@ fn scripts_of(rt: &impl Abort, alloc: Global, lines: &[(Point, &str)]) -> Script
     scripts
 }
 
-fn new_desk(alloc: Global, scripts: Scripts) -> Result<Desk, AllocError> {
+fn new_desk(alloc: Global, scripts: Scripts, numbered: bool) -> Result<Desk, AllocError> {
     let limits = Limits {
         tool: 250,
         bed: 100,
     };
-    Desk::new(alloc, scripts, limits, 5000)
+    Desk::new(alloc, scripts, limits, 5000, numbered)
 }
 
 // A desk with these scripts and a selected file of one command.
 fn desk_with(rt: &impl Abort, alloc: Global, lines: &[(Point, &str)]) -> Result<Desk, Fail> {
-    let mut desk = new_desk(alloc, scripts_of(rt, alloc, lines))?;
+    let mut desk = new_desk(alloc, scripts_of(rt, alloc, lines), false)?;
     select(alloc, &mut desk)?;
     Ok(desk)
 }
@@ -421,7 +422,7 @@ fn copied_scripts(rt: HostRuntime) -> Result<(), Fail> {
 // Each call that takes memory returns its value.
 #[test]
 fn ample(rt: HostRuntime) -> Result<(), Fail> {
-    let desk = new_desk(rt.alloc(), with_longest_script(&rt, rt.alloc()))?;
+    let desk = new_desk(rt.alloc(), with_longest_script(&rt, rt.alloc()), false)?;
     assert_eq!(rt; desk.state(), State::Offline);
     Ok(())
 }
