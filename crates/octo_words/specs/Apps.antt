@@ -43,13 +43,18 @@ print_app =
     command_app (codes "print")
     (operand (codes "port") ∷ operand (codes "file") ∷ option (codes "turns") ∷ option (codes "settings") ∷ flag (codes "progress") ∷ [])
 
+-- `sure PORT FILE [--turns N] [--settings FILE]`
+abbrev pub sure_app : App
+sure_app =
+    command_app (codes "sure") (operand (codes "port") ∷ operand (codes "file") ∷ option (codes "turns") ∷ option (codes "settings") ∷ [])
+
 -- `check FILE [--settings FILE]`
 abbrev pub check_app : App
 check_app = command_app (codes "check") (operand (codes "file") ∷ option (codes "settings") ∷ [])
 
--- `demo SEED COMMANDS`
+-- `demo SEED COMMANDS [--lost-replies LIST]`
 abbrev pub demo_app : App
-demo_app = command_app (codes "demo") (operand (codes "seed") ∷ operand (codes "commands") ∷ [])
+demo_app = command_app (codes "demo") (operand (codes "seed") ∷ operand (codes "commands") ∷ option (codes "lost-replies") ∷ [])
 
 -- `measure FILE`
 abbrev pub measure_app : App
@@ -93,7 +98,7 @@ with_commands app commands = fold (λ all command. with_subcommand all command.t
 
 -- the commands that print and check, and those that work on files
 abbrev pub printing_commands : List App
-printing_commands = print_app ∷ check_app ∷ demo_app ∷ []
+printing_commands = print_app ∷ sure_app ∷ check_app ∷ demo_app ∷ []
 
 abbrev pub file_commands : List App
 file_commands = measure_app ∷ rest_app ∷ serve_app ∷ []

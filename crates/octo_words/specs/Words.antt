@@ -1,9 +1,10 @@
 -- Which command the arguments are.
-use Rattle.std.specs.Prelude.{ℕ, Bool, false, ◌&&◌, ◌≡◌, ◌≤◌, nat_le, if◌then◌else◌, List, [], ◌∷◌, length, codes, Option, Some, None, option_and_then, option_map, Result, MatchResult}
+use Rattle.std.specs.Prelude.{ℕ, Bool, true, false, ◌&&◌, ◌==◌, ◌≡◌, ◌≤◌, nat_le, nat_lt, if◌then◌else◌, List, [], ◌∷◌, length, codes, Option, Some, None, option_and_then, option_map, Result, MatchResult}
+use Rattle.std.specs.List.{slice_split}
 use Rattle.std.specs.Str.{bytes_eq}
 use Rattle.clap.specs.Words.{Kinds, Row, Text, fault_of, first_of, subcommand_of, subcommand_rows_of}
 use Rattle.clap.specs.declared.parser.matches.ArgMatches.{ArgMatches}
-use Rattle.byte_text.specs.Number.{whole_number, in_range}
+use Rattle.byte_text.specs.Number.{whole_number, in_range, number_in, only_if}
 use Rattle.octo_words.specs.Apps.{octo_app}
 use Rattle.octo_words.specs.declared.command.Command.{Command}
 use Rattle.octo_words.specs.declared.command.Command.TheVariants.{Print, Check, Demo, Measure, Rest, Serve}
@@ -36,11 +37,11 @@ abbrev pub turns_of : Option Text → Option ℕ
 turns_of None = Some 1000000000
 turns_of (Some text) = number_of 1 4000000000000 text
 
--- `print`, by its arguments
-abbrev pub print_of : List Row → Option Command
-print_of rows =
+-- `print`, or `sure` that `ok`s have numbers, by its arguments
+abbrev pub print_of : Bool → List Row → Option Command
+print_of sure rows =
     option_and_then (λ port. option_and_then (λ file. option_map (λ turns.
-    Print port file turns (first_of (codes "settings") rows))
+    Print port file turns (first_of (codes "settings") rows) sure)
     (turns_of (first_of (codes "turns") rows)))
     (first_of (codes "file") rows))
     (option_and_then name_of (first_of (codes "port") rows))
@@ -49,10 +50,38 @@ print_of rows =
 abbrev pub check_of : List Row → Option Command
 check_of rows = option_map (λ file. Check file (first_of (codes "settings") rows)) (first_of (codes "file") rows)
 
+-- the number of a reply that a text is, if it is above this one
+abbrev pub reply_above : ℕ → Text → Option ℕ
+reply_above least text = only_if (λ n. nat_lt least n) (number_in text)
+
+-- a number, and later ones that depend on it
+abbrev pub with_reply : Option ℕ → (ℕ → Option (List ℕ)) → Option (List ℕ)
+with_reply None later = None
+with_reply (Some n) later = option_map (λ numbers. n ∷ numbers) (later n)
+
+-- the numbers that texts are, each above the one before
+abbrev pub replies_above : ℕ → List Text → Option (List ℕ)
+replies_above least [] = Some []
+replies_above least (piece ∷ pieces) = with_reply (reply_above least piece) (λ n. replies_above n pieces)
+
+-- whether a byte is between two numbers
+abbrev pub is_comma : ℕ → Bool
+is_comma byte = byte == 44
+
+-- the replies that a text lists, none for a dash
+abbrev pub replies_in : Text → Option (List ℕ)
+replies_in text = if bytes_eq text (codes "-") then Some [] else replies_above 0 (slice_split is_comma text)
+
+-- the replies that a demo loses, if its option lists them
+abbrev pub lost_of : Option Text → Option (Option (List ℕ))
+lost_of None = Some None
+lost_of (Some text) = option_map (λ replies. Some replies) (replies_in text)
+
 -- `demo`
 abbrev pub demo_of : List Row → Option Command
 demo_of rows =
-    option_and_then (λ seed. option_map (λ commands. Demo seed commands)
+    option_and_then (λ seed. option_and_then (λ commands. option_map (λ lost. Demo seed commands lost)
+    (lost_of (first_of (codes "lost-replies") rows)))
     (option_and_then (number_of 0 200000) (first_of (codes "commands") rows)))
     (option_and_then (number_of 0 2147483647) (first_of (codes "seed") rows))
 
@@ -80,7 +109,8 @@ serve_of rows =
 -- the command of that name
 abbrev pub command_named : Text → List Row → Option Command
 command_named name rows =
-    if bytes_eq name (codes "print") then print_of rows
+    if bytes_eq name (codes "print") then print_of false rows
+    else if bytes_eq name (codes "sure") then print_of true rows
     else if bytes_eq name (codes "check") then check_of rows
     else if bytes_eq name (codes "demo") then demo_of rows
     else if bytes_eq name (codes "measure") then measure_of rows
@@ -106,7 +136,7 @@ progress_of words = option_map (λ named. has_progress named.1) (rows_named word
 
 -- the numbers of a demo are within its ranges
 abbrev pub IsInRange : Command → Type 0
-IsInRange (Demo seed commands) = (seed ≤ 2147483647) × (commands ≤ 200000)
+IsInRange (Demo seed commands lost) = (seed ≤ 2147483647) × (commands ≤ 200000)
 IsInRange _ = Unit {0}
 
 -- a reading of what is wanted: it is returned, and BadWords comes only if there is nothing such

@@ -2,7 +2,7 @@
 ghost use Rattle.std.specs.Prelude.{◌≡◌, false, true, fold, IfOk};
 ghost use Rattle.clap.specs.Words.{App, app_of, new_app, rule_of, with_subcommand};
 ghost use Rattle.clap.specs.declared.builder.command.Command.TheViews.{out-Command};
-ghost use Rattle.octo_words.specs.Apps.{operand, option, needed_option, flag, rule_of_kind, with_argument, print_app, check_app, demo_app, measure_app, rest_app, serve_app, bare_app, helped_bare_app, with_commands, printing_commands, file_commands, octo_app, helped_app};
+ghost use Rattle.octo_words.specs.Apps.{operand, option, needed_option, flag, rule_of_kind, with_argument, print_app, sure_app, check_app, demo_app, measure_app, rest_app, serve_app, bare_app, helped_bare_app, with_commands, printing_commands, file_commands, octo_app, helped_app};
 
 use clap::{Arg, ArgAction, Command};
 use std::alloc::{AllocError, Global};
@@ -106,6 +106,23 @@ fn print_app<'a>(alloc: Global) -> Result<Command<'a>, AllocError>
     )
 }
 
+fn sure_app<'a>(alloc: Global) -> Result<Command<'a>, AllocError>
+    ensures app { IfOk result (λ c. app_of c ≡ sure_app) }
+    ensures local { IfOk result (λ c. (out-Command c).has_globals ≡ false) }
+{
+    command(
+        alloc,
+        "sure",
+        "Prints as `print` does, also if replies are lost, over a printer whose `ok`s have numbers",
+        &[
+            (Kind::Operand, "port"),
+            (Kind::Operand, "file"),
+            (Kind::Optional, "turns"),
+            (Kind::Optional, "settings"),
+        ],
+    )
+}
+
 fn check_app<'a>(alloc: Global) -> Result<Command<'a>, AllocError>
     ensures app { IfOk result (λ c. app_of c ≡ check_app) }
     ensures local { IfOk result (λ c. (out-Command c).has_globals ≡ false) }
@@ -126,7 +143,11 @@ fn demo_app<'a>(alloc: Global) -> Result<Command<'a>, AllocError>
         alloc,
         "demo",
         "Prints a made-up file over a link in memory that loses and corrupts lines",
-        &[(Kind::Operand, "seed"), (Kind::Operand, "commands")],
+        &[
+            (Kind::Operand, "seed"),
+            (Kind::Operand, "commands"),
+            (Kind::Optional, "lost-replies"),
+        ],
     )
 }
 
@@ -210,7 +231,7 @@ fn helped_bare_app<'a>(alloc: Global) -> Command<'a>
         .subcommand_required(true)
 }
 
-// A program with `print`, `check` and `demo` too.
+// A program with `print`, `sure`, `check` and `demo` too.
 fn with_printing<'a>(
     alloc: Global,
     program: Result<Command<'a>, AllocError>,
@@ -219,6 +240,7 @@ fn with_printing<'a>(
         → IfOk result (λ c. app_of c ≡ with_commands before printing_commands) }
 {
     let program = with_command(program, print_app(alloc));
+    let program = with_command(program, sure_app(alloc));
     let program = with_command(program, check_app(alloc));
     with_command(program, demo_app(alloc))
 }

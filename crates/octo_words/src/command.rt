@@ -1,5 +1,5 @@
 //! The commands of the host, with their operands and options.
-ghost use Rattle.std.specs.Prelude.{◌≡◌, IfOk};
+ghost use Rattle.std.specs.Prelude.{◌≡◌, ◌++◌, [], ◌∷◌, IfOk, OnOk};
 
 use byte_text::Name;
 use std::alloc::{AllocError, Global};
@@ -38,26 +38,73 @@ impl FilePath {
     }
 }
 
+/// Replies by their numbers, which rise.
+#[derive(Debug, Drop)]
+pub struct ReplyList {
+    numbers: Vec<u64>,
+}
+
+impl Model for ReplyList {
+    ghost use Rattle.std.specs.Prelude.{List, ℕ};
+
+    ghost Value = { List ℕ };
+
+    ghost view = { λ r. r.numbers.items };
+}
+
+impl ReplyList {
+    // No reply. Takes no memory.
+    pub(crate) fn new(alloc: Global) -> ReplyList
+        ensures { result ≡ [] }
+    {
+        ReplyList {
+            numbers: Vec::new(alloc),
+        }
+    }
+
+    // Adds a number at the end.
+    pub(crate) fn push(&mut self, number: u64) -> Result<(), AllocError>
+        ensures { OnOk result (self.new ≡ self.old ++ number ∷ []) }
+    {
+        self.numbers.push(number)?;
+        Ok(())
+    }
+
+    /// The numbers, counted from 1.
+    pub fn as_slice(&self) -> &[u64]
+        ensures { result.now ≡ self.now }
+    {
+        self.numbers.as_slice()
+    }
+}
+
 /// What the host is asked to do.
 #[derive(Debug, Drop)]
 pub enum Command {
     /// `print PORT FILE [--turns N] [--settings FILE] [--progress]`: prints a file over a port of 1 to 100 bytes, in 1 to
     /// 4,000,000,000,000 turns (1,000,000,000 if none are named). `asks_progress` says whether its progress is asked for.
+    ///
+    /// `sure PORT FILE [--turns N] [--settings FILE]` is the same for a printer whose `ok`s have numbers, whatever the settings say
+    /// of that.
     Print {
         port: Name,
         file: FilePath,
         turns: u64,
         settings: Option<FilePath>,
+        sure: bool,
     },
     /// `check FILE [--settings FILE]`: reads a file and counts its commands.
     Check {
         file: FilePath,
         settings: Option<FilePath>,
     },
-    /// `demo SEED COMMANDS`: prints a file made from a number up to 2,147,483,647, of at most 200,000 commands.
+    /// `demo SEED COMMANDS [--lost-replies LIST]`: prints a file made from a number up to 2,147,483,647, of at most 200,000
+    /// commands. If a list is given, the printer's `ok`s have numbers, and those replies are lost: numbers from 1 on that rise,
+    /// with commas between, or `-` for none.
     Demo {
         seed: u32,
         commands: u32,
+        lost: Option<ReplyList>,
     },
     /// `measure FILE`: the filament and the extents of a file.
     Measure {

@@ -7,7 +7,8 @@ mod fields;
 mod parse;
 mod read;
 mod remark;
+mod replies;
 
-pub use command::{Command, FilePath, WordsFault};
+pub use command::{Command, FilePath, ReplyList, WordsFault};
 pub use read::{asks_progress, read_words};
 pub use remark::{Remark, remark_on};

@@ -7,6 +7,7 @@ ghost use Rattle.octo_words.specs.Words.{IsInRange, Reads, has_progress, progres
 use crate::command::{Command, WordsFault};
 use crate::fields::{file_in, name_in, number_in, optional_file_in, text_in, turns_in};
 use crate::parse::{parse, texts_of};
+use crate::replies::lost_in;
 use clap::ArgMatches;
 use octo_outside::WordList;
 use std::alloc::Global;
@@ -17,8 +18,9 @@ pub(crate) const MOST_COMMANDS: u64 = 200_000;
 
 pub(crate) const MOST_PLACE: u64 = 9_999_999_999_999;
 
-fn read_print(alloc: Global, found: &ArgMatches<'_>) -> Result<Command, WordsFault>
-    ensures read { Reads (print_of (rows_of (found_of found.now))) result }
+// The command `print`, or `sure`.
+fn read_print(alloc: Global, found: &ArgMatches<'_>, sure: bool) -> Result<Command, WordsFault>
+    ensures read { Reads (print_of sure (rows_of (found_of found.now))) result }
     ensures range { IfOk result IsInRange }
 {
     let port = name_in(found, "port")?;
@@ -30,6 +32,7 @@ fn read_print(alloc: Global, found: &ArgMatches<'_>) -> Result<Command, WordsFau
         file,
         turns,
         settings,
+        sure,
     })
 }
 
@@ -42,15 +45,17 @@ fn read_check(alloc: Global, found: &ArgMatches<'_>) -> Result<Command, WordsFau
     Ok(Command::Check { file, settings })
 }
 
-fn read_demo(found: &ArgMatches<'_>) -> Result<Command, WordsFault>
+fn read_demo(alloc: Global, found: &ArgMatches<'_>) -> Result<Command, WordsFault>
     ensures read { Reads (demo_of (rows_of (found_of found.now))) result }
     ensures range { IfOk result IsInRange }
 {
     let seed = number_in(found, "seed", 0, MOST_SEED)?;
     let commands = number_in(found, "commands", 0, MOST_COMMANDS)?;
+    let lost = lost_in(alloc, found, "lost-replies")?;
     Ok(Command::Demo {
         seed: seed as u32,
         commands: commands as u32,
+        lost,
     })
 }
 
@@ -93,9 +98,10 @@ fn read_named(alloc: Global, name: &str, found: &ArgMatches<'_>) -> Result<Comma
     ensures range { IfOk result IsInRange }
 {
     match name {
-        "print" => read_print(alloc, found),
+        "print" => read_print(alloc, found, false),
+        "sure" => read_print(alloc, found, true),
         "check" => read_check(alloc, found),
-        "demo" => read_demo(found),
+        "demo" => read_demo(alloc, found),
         "measure" => read_measure(alloc, found),
         "rest" => read_rest(alloc, found),
         "serve" => read_serve(alloc, found),

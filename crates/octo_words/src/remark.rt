@@ -133,25 +133,35 @@ fn wrong_number<'a>(
     })
 }
 
+// The value of an argument that lists replies. It is the last one of its command, so it isn't tested again.
+fn listed_value<'a>(found: &ArgMatches<'a>, argument: &'a str) -> Option<WrongValue<'a>> {
+    let value = text_in(found, argument)?;
+    Some(WrongValue {
+        argument,
+        need: "numbers that rise, with commas between, or -",
+        value,
+    })
+}
+
 // The first value of a command that may not be.
 fn wrong_value<'a>(command: &str, found: &ArgMatches<'a>) -> Option<WrongValue<'a>> {
     match command {
-        "print" => wrong_name(found, "port").or(wrong_number(
+        "print" | "sure" => wrong_name(found, "port").or(wrong_number(
             found,
             "turns",
             1,
             MOST_TURNS,
             "a number from 1 to 4000000000000",
         )),
-        "demo" => wrong_number(found, "seed", 0, MOST_SEED, "a number from 0 to 2147483647").or(
-            wrong_number(
+        "demo" => wrong_number(found, "seed", 0, MOST_SEED, "a number from 0 to 2147483647")
+            .or(wrong_number(
                 found,
                 "commands",
                 0,
                 MOST_COMMANDS,
                 "a number from 0 to 200000",
-            ),
-        ),
+            ))
+            .or(listed_value(found, "lost-replies")),
         "rest" => wrong_number(
             found,
             "command",
