@@ -1,15 +1,15 @@
 -- Settings that were read are ones that a sender and a desk can be made with.
-use Rattle.std.proofs.Common.{◌≡◌, ℕ, ◌≤◌, pos, negsuc, Bool, true, false, ◌&&◌, nat_le, cond, List, Option, Some, None, Result, Ok, Err, IfOk, refl, subst, codes, rules, arith}
+use Rattle.std.proofs.Common.{◌≡◌, ℕ, ◌≤◌, pos, negsuc, Bool, true, false, ◌&&◌, nat_le, nat_lt, cond, ◌∙◌, List, Option, Some, None, Result, Ok, Err, IfOk, refl, subst, codes, rules, arith}
 use Rattle.std.proofs.lemmas.Bool.Decides.{nat_tests}
 use Rattle.toml.specs.Data.{Data, string, integer, float, boolean, datetime, array, table, Members, get_member}
 use Rattle.job_desk.specs.Data.{ScriptTexts}
 use Rattle.temp_rules.specs.declared.limits.Limits.{Limits}
 use Rattle.octo_access.specs.Groups.{GroupData}
 use Rattle.octo_access.specs.declared.row.Admin.{Admin}
-use Rattle.octo_settings.specs.Config.{document_of, settings_in, settings_or, config, plain_settings}
+use Rattle.octo_settings.specs.Config.{document_of, settings_in, settings_or, config, plain_settings, with_numbers}
 use Rattle.octo_settings.specs.Groups.{groups_of}
 use Rattle.octo_settings.specs.Scripts.{scripts_of}
-use Rattle.octo_settings.specs.Sections.{ports_of, material_of, boot_of, flag_of, printer_in, printer_of, limits_of, admin_of, serve_in, serve_of, origins_of}
+use Rattle.octo_settings.specs.Sections.{ports_of, material_of, boot_of, flag_of, numbered_in, numbered_of, printer_in, printer_of, limits_of, admin_of, serve_in, serve_of, origins_of}
 use Rattle.octo_settings.specs.Sound.{AreScripts, IsSettings}
 use Rattle.octo_settings.specs.Values.{Reads, and_then, section, whole}
 use Rattle.octo_settings.specs.declared.fault.SettingsFault.{SettingsFault}
@@ -46,27 +46,58 @@ record IsPrinter (p : Printer) : Type 0 where
   small_window : p.window ≤ 16
   some_limit : 1 ≤ p.limit_ms
   some_poll : 1 ≤ p.poll_ms
+  wide_window : p.numbered_oks ≡ true → 2 ≤ p.window
 
-abbrev whole-printer : List (List ℕ) → ℕ → ℕ → ℕ → Option ℕ → List ℕ → Bool → Printer
-whole-printer ports window limit poll boot material connect =
-    record { ports = ports; window = window; limit_ms = limit; poll_ms = poll; boot_ms = boot; material = material; connect = connect }
+abbrev whole-printer : List (List ℕ) → ℕ → ℕ → ℕ → Option ℕ → List ℕ → Bool → Bool → Printer
+whole-printer ports window limit poll boot material connect numbered =
+    record {
+      ports = ports;
+      window = window;
+      limit_ms = limit;
+      poll_ms = poll;
+      boot_ms = boot;
+      material = material;
+      connect = connect;
+      numbered_oks = numbered;
+    }
+
+-- a flag that is read for a window is true only with a window of 2
+wide-enough : (key : List ℕ) (window : ℕ) (flag numbered : Bool) (b : Bool) → (flag && nat_lt window 2) ≡ b →
+    ◌≡◌ {A = Result Bool SettingsFault} (cond b (Err (OutOfRange key)) (Ok flag)) (Ok numbered) → numbered ≡ true → 2 ≤ window
+wide-enough key window flag numbered true is h on = absurd (cc h)
+wide-enough key window true numbered false is h on = grind (arith, nat_tests)
+wide-enough key window false numbered false is h on = let same : false ≡ numbered = cc h in absurd (cc (same ∙ on))
+
+wide-by : (key : List ℕ) (window : ℕ) (flag : Result Bool SettingsFault) (numbered : Bool) →
+    and_then flag (numbered_in key window) ≡ Ok numbered → numbered ≡ true → 2 ≤ window
+wide-by key window (Err fault) numbered h on = absurd (cc h)
+wide-by key window (Ok flag) numbered h on = wide-enough key window flag numbered (flag && nat_lt window 2) refl h on
+
+-- the last key of a printer
+printer-last : (made_with : Bool → Printer) (numbered : Result Bool SettingsFault) (p : Printer) →
+    ((n : Bool) → numbered ≡ Ok n → made_with n ≡ p → IsPrinter p) →
+    ◌≡◌ {A = Result Printer SettingsFault} (and_then numbered (λ n. Ok (made_with n))) (Ok p) → IsPrinter p
+printer-last made_with (Err fault) p k h = absurd (cc h)
+printer-last made_with (Ok n) p k h = let same : made_with n ≡ p = cc h in k n refl same
 
 printer-by : (ports : Result (List (List ℕ)) SettingsFault) (window limit poll : Result ℕ SettingsFault) (boot : Result (Option ℕ) SettingsFault)
-    (material : Result (List ℕ) SettingsFault) (connect : Result Bool SettingsFault) (p : Printer)
+    (material : Result (List ℕ) SettingsFault) (connect : Result Bool SettingsFault) (numbered : ℕ → Result Bool SettingsFault) (p : Printer)
     → ((n : ℕ) → window ≡ Ok n → (1 ≤ n) × (n ≤ 16)) → ((n : ℕ) → limit ≡ Ok n → 1 ≤ n) → ((n : ℕ) → poll ≡ Ok n → 1 ≤ n)
+    → ((n : ℕ) (b : Bool) → numbered n ≡ Ok b → b ≡ true → 2 ≤ n)
     → and_then ports (λ a. and_then window (λ b. and_then limit (λ c. and_then poll (λ d. and_then boot (λ f.
-    and_then material (λ e. and_then connect (λ g. Ok (whole-printer a b c d f e g)))))))) ≡ Ok p
+    and_then material (λ e. and_then connect (λ g. and_then (numbered b) (λ o. Ok (whole-printer a b c d f e g o))))))))) ≡ Ok p
     → IsPrinter p
-printer-by (Err fault) window limit poll boot material connect p w l q h = absurd (cc)
-printer-by (Ok a) (Err fault) limit poll boot material connect p w l q h = absurd (cc)
-printer-by (Ok a) (Ok b) (Err fault) poll boot material connect p w l q h = absurd (cc)
-printer-by (Ok a) (Ok b) (Ok c) (Err fault) boot material connect p w l q h = absurd (cc)
-printer-by (Ok a) (Ok b) (Ok c) (Ok d) (Err fault) material connect p w l q h = absurd (cc)
-printer-by (Ok a) (Ok b) (Ok c) (Ok d) (Ok f) (Err fault) connect p w l q h = absurd (cc)
-printer-by (Ok a) (Ok b) (Ok c) (Ok d) (Ok f) (Ok e) (Err fault) p w l q h = absurd (cc)
-printer-by (Ok a) (Ok b) (Ok c) (Ok d) (Ok f) (Ok e) (Ok g) p w l q h =
-    let same : whole-printer a b c d f e g ≡ p = cc in
-    subst IsPrinter same (record { open_window = (w b refl).0; small_window = (w b refl).1; some_limit = l c refl; some_poll = q d refl })
+printer-by (Err fault) window limit poll boot material connect numbered p w l q o h = absurd (cc)
+printer-by (Ok a) (Err fault) limit poll boot material connect numbered p w l q o h = absurd (cc)
+printer-by (Ok a) (Ok b) (Err fault) poll boot material connect numbered p w l q o h = absurd (cc)
+printer-by (Ok a) (Ok b) (Ok c) (Err fault) boot material connect numbered p w l q o h = absurd (cc)
+printer-by (Ok a) (Ok b) (Ok c) (Ok d) (Err fault) material connect numbered p w l q o h = absurd (cc)
+printer-by (Ok a) (Ok b) (Ok c) (Ok d) (Ok f) (Err fault) connect numbered p w l q o h = absurd (cc)
+printer-by (Ok a) (Ok b) (Ok c) (Ok d) (Ok f) (Ok e) (Err fault) numbered p w l q o h = absurd (cc)
+printer-by (Ok a) (Ok b) (Ok c) (Ok d) (Ok f) (Ok e) (Ok g) numbered p w l q o h =
+    printer-last (whole-printer a b c d f e g) (numbered b) p
+    (λ n is same. subst IsPrinter same
+    (record { open_window = (w b refl).0; small_window = (w b refl).1; some_limit = l c refl; some_poll = q d refl; wide_window = o b n is })) h
 
 at-least-one : (key : List ℕ) (least most default : ℕ) (value : Option Data) (n : ℕ) → 1 ≤ least → least ≤ default → default ≤ most →
     whole key least most default value ≡ Ok n → 1 ≤ n
@@ -82,10 +113,12 @@ printer-in-sound members p h =
     (boot_of (codes "printer.boot_ms") (get_member (codes "boot_ms") members))
     (material_of (codes "printer.material") (get_member (codes "material") members))
     (flag_of (codes "printer.connect") (get_member (codes "connect") members))
+    (λ window. numbered_of (codes "printer.numbered_oks") window (get_member (codes "numbered_oks") members))
     p
     (λ n is. whole-within (codes "printer.window") 1 16 4 (get_member (codes "window") members) n (omega arith) (omega arith) is)
     (λ n is. at-least-one (codes "printer.limit_ms") 1000 600000 30000 (get_member (codes "limit_ms") members) n (omega arith) (omega arith) (omega arith) is)
     (λ n is. at-least-one (codes "printer.poll_ms") 1000 600000 5000 (get_member (codes "poll_ms") members) n (omega arith) (omega arith) (omega arith) is)
+    (λ n b is. wide-by (codes "printer.numbered_oks") n (flag_of (codes "printer.numbered_oks") (get_member (codes "numbered_oks") members)) b is)
     h
 
 printer-sound : (value : Option Data) (p : Printer) → printer_of value ≡ Ok p → IsPrinter p
@@ -122,6 +155,7 @@ whole-settings p limits admin serve groups scripts =
       boot_ms = p.boot_ms;
       material = p.material;
       connect = p.connect;
+      numbered_oks = p.numbered_oks;
       limits = limits;
       admin = Some admin;
       patience = serve.patience;
@@ -140,6 +174,7 @@ settings-made p limits admin serve groups (Ok texts) s printer some each h =
     subst IsSettings same (record {
       open_window = printer.open_window;
       small_window = printer.small_window;
+      wide_window = printer.wide_window;
       some_limit = printer.some_limit;
       some_poll = printer.some_poll;
       patient = some;
@@ -190,11 +225,31 @@ pub read-sound : (result wanted : Result Settings SettingsFault) → Reads resul
 read-sound (Ok s) wanted is sound = sound s is
 read-sound (Err fault) wanted is sound = search rules
 
+-- so are those to which numbers were added
+pub numbered_sound : (s : Settings) → IsSettings s → IsSettings (with_numbers s).1
+numbered_sound s is = by (nat_lt s.window 2) refl
+  where
+    answer : Bool → Result (Unit {0}) SettingsFault × Settings
+    answer b = cond b (Err (OutOfRange (codes "printer.numbered_oks")), s) (Ok tt, record s { numbered_oks = true })
+
+    by : (b : Bool) → nat_lt s.window 2 ≡ b → IsSettings (answer b).1
+    by true small = is
+    by false wide = record {
+      open_window = is.open_window;
+      small_window = is.small_window;
+      wide_window = λ on. grind (arith, nat_tests);
+      some_limit = is.some_limit;
+      some_poll = is.some_poll;
+      patient = is.patient;
+      scripts = is.scripts;
+    }
+
 pub plain-sound : IsSettings plain_settings
 plain-sound =
     record {
       open_window = omega arith;
       small_window = omega arith;
+      wide_window = λ on. absurd (cc on);
       some_limit = omega arith;
       some_poll = omega arith;
       patient = omega arith;

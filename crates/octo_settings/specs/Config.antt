@@ -1,5 +1,5 @@
 -- The settings that a text says, or the first of its faults in the order of the keys.
-use Rattle.std.specs.Prelude.{ℕ, false, nat_le, if◌then◌else◌, List, [], length, codes, Option, None, Some, Result, Ok, Err}
+use Rattle.std.specs.Prelude.{ℕ, false, true, nat_le, nat_lt, if◌then◌else◌, List, [], length, codes, Option, None, Some, Result, Ok, Err}
 use Rattle.toml.specs.Data.{Members, get_member}
 use Rattle.toml.specs.Parse.{parse_document}
 use Rattle.octo_settings.specs.Groups.{groups_of}
@@ -7,7 +7,7 @@ use Rattle.octo_settings.specs.Scripts.{scripts_of}
 use Rattle.octo_settings.specs.Sections.{printer_of, limits_of, admin_of, serve_of}
 use Rattle.octo_settings.specs.Values.{and_then}
 use Rattle.octo_settings.specs.declared.fault.SettingsFault.{SettingsFault}
-use Rattle.octo_settings.specs.declared.fault.SettingsFault.TheVariants.{NotToml}
+use Rattle.octo_settings.specs.declared.fault.SettingsFault.TheVariants.{NotToml, OutOfRange}
 use Rattle.octo_settings.specs.declared.settings.Settings.{Settings}
 use Rattle.job_desk.specs.Scripts.{no_scripts}
 
@@ -36,6 +36,7 @@ settings_in members =
       boot_ms = printer.boot_ms;
       material = printer.material;
       connect = printer.connect;
+      numbered_oks = printer.numbered_oks;
       limits = limits;
       admin = Some admin;
       patience = serve.patience;
@@ -63,6 +64,7 @@ plain_settings = record {
   boot_ms = None;
   material = codes "any";
   connect = false;
+  numbered_oks = false;
   limits = record { tool = 300; bed = 120 };
   admin = None;
   patience = 6000;
@@ -70,3 +72,8 @@ plain_settings = record {
   groups = [];
   scripts = no_scripts;
 }
+
+-- whether settings take that `ok`s have numbers, and the settings with it
+abbrev pub with_numbers : Settings → Result (Unit {0}) SettingsFault × Settings
+with_numbers settings =
+    if nat_lt settings.window 2 then (Err (OutOfRange (codes "printer.numbered_oks")), settings) else (Ok tt, record settings { numbered_oks = true })

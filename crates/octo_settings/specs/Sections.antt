@@ -1,5 +1,5 @@
 -- The sections of settings: the printer, its limits, the admin, and how serving treats connections.
-use Rattle.std.specs.Prelude.{ℕ, Bool, false, ◌&&◌, nat_le, if◌then◌else◌, List, [], length, codes, Option, None, Some, Result, Ok, Err}
+use Rattle.std.specs.Prelude.{ℕ, Bool, false, ◌&&◌, nat_le, nat_lt, if◌then◌else◌, List, [], length, codes, Option, None, Some, Result, Ok, Err}
 use Rattle.toml.specs.Data.{Data, boolean, Members, get_member}
 use Rattle.hex.specs.Hex.{decode_sized}
 use Rattle.hex.specs.declared.error.FromHexError.{FromHexError}
@@ -45,6 +45,14 @@ flag_of key None = Ok false
 flag_of key (Some (boolean flag)) = Ok flag
 flag_of key (Some _) = Err (WrongKind key)
 
+-- `ok`s may have numbers only if there is room for a second line: a probe behind a poll
+abbrev pub numbered_in : List ℕ → ℕ → Bool → Result Bool SettingsFault
+numbered_in key window numbered = if numbered && nat_lt window 2 then Err (OutOfRange key) else Ok numbered
+
+-- whether the printer's `ok`s have numbers, no if it is missing
+abbrev pub numbered_of : List ℕ → ℕ → Option Data → Result Bool SettingsFault
+numbered_of key window value = and_then (flag_of key value) (numbered_in key window)
+
 -- the printer of a table
 abbrev pub printer_in : Members → Result Printer SettingsFault
 printer_in members =
@@ -55,6 +63,7 @@ printer_in members =
     and_then (boot_of (codes "printer.boot_ms") (get_member (codes "boot_ms") members)) (λ boot_ms.
     and_then (material_of (codes "printer.material") (get_member (codes "material") members)) (λ material.
     and_then (flag_of (codes "printer.connect") (get_member (codes "connect") members)) (λ connect.
+    and_then (numbered_of (codes "printer.numbered_oks") window (get_member (codes "numbered_oks") members)) (λ numbered_oks.
     Ok (record {
       ports = ports;
       window = window;
@@ -63,7 +72,8 @@ printer_in members =
       boot_ms = boot_ms;
       material = material;
       connect = connect;
-    }))))))))
+      numbered_oks = numbered_oks;
+    })))))))))
 
 -- the printer of the section `printer`
 abbrev pub printer_of : Option Data → Result Printer SettingsFault

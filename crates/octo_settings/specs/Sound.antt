@@ -1,5 +1,5 @@
 -- What a sender, a desk and a print may rely on, whichever settings were read.
-use Rattle.std.specs.Prelude.{◌≡◌, ℕ, ◌≤◌, List, None, All}
+use Rattle.std.specs.Prelude.{◌≡◌, ℕ, ◌≤◌, true, List, None, All}
 use Rattle.byte_text.specs.Sendable.{IsSendable}
 use Rattle.job_desk.specs.Data.{ScriptTexts, texts_at}
 use Rattle.job_desk.specs.declared.state.Point.{Point}
@@ -20,6 +20,7 @@ AreScripts limits scripts = (point : Point) → All (IsScriptLine limits) (texts
 pub record IsSettings (settings : Settings) : Type 0 where
   pub open_window : 1 ≤ settings.window
   pub small_window : settings.window ≤ 16
+  pub wide_window : settings.numbered_oks ≡ true → 2 ≤ settings.window
   pub some_limit : 1 ≤ settings.limit_ms
   pub some_poll : 1 ≤ settings.poll_ms
   pub patient : 1 ≤ settings.patience

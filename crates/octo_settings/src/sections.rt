@@ -3,7 +3,7 @@ ghost use Rattle.std.specs.Prelude.{◌≡◌, ◌≤◌, length};
 ghost use Rattle.byte_text.specs.declared.name.TheConstants.{MOST_NAME_BYTES};
 ghost use Rattle.hex.specs.Hex.{decode_sized};
 ghost use Rattle.octo_access.specs.Names.{name_of};
-ghost use Rattle.octo_settings.specs.Sections.{short_text, ports_in, ports_of, material_of, boot_of, flag_of, printer_in, printer_of, limits_in, limits_of, admin_name_of, digest_in, digest_of, admin_in, admin_of, origins_in, origins_of, serve_in, serve_of};
+ghost use Rattle.octo_settings.specs.Sections.{short_text, ports_in, ports_of, material_of, boot_of, flag_of, numbered_of, printer_in, printer_of, limits_in, limits_of, admin_name_of, digest_in, digest_of, admin_in, admin_of, origins_in, origins_of, serve_in, serve_of};
 ghost use Rattle.octo_settings.specs.Seen.{members_or, data_of_value};
 ghost use Rattle.octo_settings.specs.Values.{Reads, each, in_range};
 
@@ -29,6 +29,7 @@ pub(crate) struct Printer {
     pub(crate) boot_ms: Option<u16>,
     pub(crate) material: Name,
     pub(crate) connect: bool,
+    pub(crate) numbered_oks: bool,
 }
 
 // What the section `serve` says.
@@ -136,6 +137,18 @@ fn read_flag(key: &str, value: Option<&Value>) -> Result<bool, SettingsFault>
     }
 }
 
+// Whether the printer's `ok`s have numbers, which wants a window of at least 2 lines.
+fn read_numbered(key: &str, window: u64, value: Option<&Value>) -> Result<bool, SettingsFault>
+    requires { length key.now ≤ MOST_NAME_BYTES }
+    ensures { result ≡ numbered_of key.now window (data_of_value value.entry) }
+{
+    let numbered = read_flag(key, value)?;
+    if numbered && window < 2 {
+        return Err(out_of_range(key));
+    }
+    Ok(numbered)
+}
+
 fn read_printer_in(alloc: Global, table: Option<&Table>) -> Result<Printer, SettingsFault>
     ensures { Reads result (printer_in (members_or table.entry)) }
 {
@@ -158,6 +171,7 @@ fn read_printer_in(alloc: Global, table: Option<&Table>) -> Result<Printer, Sett
     let boot_ms = read_boot("printer.boot_ms", at(table, "boot_ms"))?;
     let material = read_material("printer.material", at(table, "material"))?;
     let connect = read_flag("printer.connect", at(table, "connect"))?;
+    let numbered_oks = read_numbered("printer.numbered_oks", window, at(table, "numbered_oks"))?;
     Ok(Printer {
         ports,
         window: window as u8,
@@ -166,6 +180,7 @@ fn read_printer_in(alloc: Global, table: Option<&Table>) -> Result<Printer, Sett
         boot_ms,
         material,
         connect,
+        numbered_oks,
     })
 }
 

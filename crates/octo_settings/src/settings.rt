@@ -1,12 +1,12 @@
 //! The settings as a whole.
 ghost use Rattle.std.specs.Prelude.{◌≡◌, ◌⊎◌, IfOk, MatchResult, Some, None, Err, IsUtf8};
 ghost use Rattle.toml.specs.View.{table_view};
-ghost use Rattle.octo_settings.specs.Config.{document_of, settings_in, config, plain_settings};
+ghost use Rattle.octo_settings.specs.Config.{document_of, settings_in, config, plain_settings, with_numbers};
 ghost use Rattle.octo_settings.specs.Sound.{IsSettings};
 ghost use Rattle.octo_settings.specs.Values.{Reads};
 ghost use Rattle.octo_settings.specs.declared.fault.SettingsFault.TheVariants.{NotToml, NoMemory};
 
-use crate::fault::SettingsFault;
+use crate::fault::{SettingsFault, out_of_range};
 use crate::groups::read_groups;
 use crate::scripts::read_scripts;
 use crate::sections::{read_admin, read_limits, read_printer, read_serve};
@@ -41,6 +41,8 @@ pub struct Settings {
     pub material: Name,
     /// Whether serving connects to the first port by itself.
     pub connect: bool,
+    /// Whether the printer's `ok`s have numbers, as those of a Marlin built with `ADVANCED_OK` have. The window is then at least 2.
+    pub numbered_oks: bool,
     /// The greatest temperatures that a command may ask for, in degrees Celsius.
     pub limits: Limits,
     /// The user who has every permission.
@@ -63,6 +65,21 @@ impl Settings {
     {
         defaults(alloc)
     }
+
+    /// The printer's `ok`s have numbers, whatever the settings say. Refused as OutOfRange with the key `printer.numbered_oks` if the
+    /// window is 1; the settings are then as before.
+    #[tactic(auto, using(crate::proofs::Sound::numbered_sound))]
+    pub fn set_numbered(&mut self) -> Result<(), SettingsFault>
+        ensures answer { result ≡ (with_numbers self.old).0 }
+        ensures after { self.new ≡ (with_numbers self.old).1 }
+        ensures sound { IsSettings self.old → IsSettings self.new }
+    {
+        if self.window < 2 {
+            return Err(out_of_range("printer.numbered_oks"));
+        }
+        self.numbered_oks = true;
+        Ok(())
+    }
 }
 
 fn defaults(alloc: Global) -> Settings
@@ -76,6 +93,7 @@ fn defaults(alloc: Global) -> Settings
         boot_ms: None,
         material: any_material(),
         connect: false,
+        numbered_oks: false,
         limits: Limits {
             tool: 300,
             bed: 120,
@@ -121,6 +139,7 @@ fn read_table(alloc: Global, table: &Table) -> Result<Settings, SettingsFault>
         boot_ms: printer.boot_ms,
         material: printer.material,
         connect: printer.connect,
+        numbered_oks: printer.numbered_oks,
         limits,
         admin: Some(admin),
         patience: serve.patience,

@@ -38,8 +38,10 @@ fn text_of(alloc: Global, command: &Command) -> Result<String, AllocError> {
             file,
             turns,
             settings,
+            sure,
         } => format!(in alloc;
-            "print {} {} {turns} {}",
+            "{} {} {} {turns} {}",
+            if *sure { "sure" } else { "print" },
             port.as_str(),
             file.as_str(),
             or_none(settings)
@@ -47,7 +49,18 @@ fn text_of(alloc: Global, command: &Command) -> Result<String, AllocError> {
         Command::Check { file, settings } => {
             format!(in alloc; "check {} {}", file.as_str(), or_none(settings))
         }
-        Command::Demo { seed, commands } => format!(in alloc; "demo {seed} {commands}"),
+        Command::Demo {
+            seed,
+            commands,
+            lost,
+        } => match lost {
+            Some(replies) => format!(in alloc;
+                "demo {seed} {commands} {} up to {}",
+                replies.as_slice().len(),
+                replies.as_slice().last().copied().unwrap_or(0)
+            ),
+            None => format!(in alloc; "demo {seed} {commands}"),
+        },
         Command::Measure { file } => format!(in alloc; "measure {}", file.as_str()),
         Command::Rest { file, command } => format!(in alloc; "rest {} {command}", file.as_str()),
         Command::Serve {
@@ -107,6 +120,8 @@ fn options_anywhere(rt: HostRuntime) -> Result<(), Fail> {
         ("print p a --settings s", "print p a 1000000000 s"),
         ("print --settings s --turns 7 p a", "print p a 7 s"),
         ("print p --progress a", "print p a 1000000000 none"),
+        ("sure p a", "sure p a 1000000000 none"),
+        ("sure --settings s --turns 7 p a", "sure p a 7 s"),
         ("check a", "check a none"),
         ("check --settings=s a", "check a s"),
         ("check a --settings s", "check a s"),
@@ -163,6 +178,12 @@ fn ends_of_ranges(rt: HostRuntime) -> Result<(), Fail> {
         ),
         ("demo 0 0", "demo 0 0"),
         ("demo 2147483647 200000", "demo 2147483647 200000"),
+        ("demo 1 2 --lost-replies 3", "demo 1 2 1 up to 3"),
+        (
+            "demo --lost-replies=1,3,4294967295 1 2",
+            "demo 1 2 3 up to 4294967295",
+        ),
+        ("demo 1 2 --lost-replies -", "demo 1 2 0 up to 0"),
         ("rest a 0", "rest a 0"),
         ("rest a 9999999999999", "rest a 9999999999999"),
     ];
@@ -183,6 +204,14 @@ fn out_of_ranges(rt: HostRuntime) -> Result<(), Fail> {
         "demo 0 200001",
         "demo x 0",
         "demo 1 ",
+        "demo 1 2 --lost-replies 0",
+        "demo 1 2 --lost-replies 3,3",
+        "demo 1 2 --lost-replies 3,2",
+        "demo 1 2 --lost-replies 3,",
+        "demo 1 2 --lost-replies=",
+        "demo 1 2 --lost-replies 4294967296",
+        "sure p a --turns 0",
+        "sure  a",
         "rest a 10000000000000",
         "rest a x",
     ];
@@ -198,6 +227,10 @@ fn options_refused(rt: HostRuntime) -> Result<(), Fail> {
         "print p a --progress --progress",
         "print p a --progress=yes",
         "check a --progress",
+        "sure p a --progress",
+        "demo 1 2 --lost-replies",
+        "demo 1 2 --lost-replies 1 --lost-replies 2",
+        "print p a --lost-replies 1",
         "print p a --turns -5",
         "print p a --settings -s",
         "print p a --turns",
@@ -225,6 +258,8 @@ fn operands_refused(rt: HostRuntime) -> Result<(), Fail> {
         "print",
         "print p",
         "print p a b",
+        "sure p",
+        "sure p a b",
         "check",
         "check a b",
         "demo 1",

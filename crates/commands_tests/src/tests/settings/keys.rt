@@ -5,7 +5,7 @@ use std::process::Abort;
 use std::test::Fail;
 
 // A key of the printer that is out of its range, or of the wrong kind.
-const PRINTERS: [(&str, Why, &str); 17] = [
+const PRINTERS: [(&str, Why, &str); 20] = [
     ("window = 0", Why::Range, "printer.window"),
     ("window = 17", Why::Range, "printer.window"),
     ("window = 4.0", Why::Kind, "printer.window"),
@@ -23,6 +23,17 @@ const PRINTERS: [(&str, Why, &str); 17] = [
     ("material = 1", Why::Kind, "printer.material"),
     ("connect = 1", Why::Kind, "printer.connect"),
     ("connect = 'true'", Why::Kind, "printer.connect"),
+    ("numbered_oks = 1", Why::Kind, "printer.numbered_oks"),
+    (
+        "window = 1\nnumbered_oks = true",
+        Why::Range,
+        "printer.numbered_oks",
+    ),
+    (
+        "numbered_oks = 1\nconnect = 1",
+        Why::Kind,
+        "printer.connect",
+    ),
 ];
 
 #[test]

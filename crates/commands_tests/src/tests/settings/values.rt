@@ -10,11 +10,11 @@ use std::test::Fail;
 
 // Every key at its least.
 const LEAST: &str = "[printer]\nports = ['p']\nwindow = 1\nlimit_ms = 1000\npoll_ms = 1000\n\
-boot_ms = 0\nmaterial = 'A'\nconnect = false\n[limits]\ntool = 0\nbed = 0\n[serve]\npatience = 1\n[groups]\n[scripts]\n";
+boot_ms = 0\nmaterial = 'A'\nconnect = false\nnumbered_oks = false\n[limits]\ntool = 0\nbed = 0\n[serve]\npatience = 1\n[groups]\n[scripts]\n";
 
 // Every whole number at its greatest.
 const GREATEST: &str = "[printer]\nports = ['a:1', 'unix:b']\nwindow = 16\nlimit_ms = 600000\n\
-poll_ms = 600_000\nboot_ms = 60000\nmaterial = 'PLA-1.0_(x)+'\nconnect = true\n[limits]\ntool = 500\nbed = 200\n\
+poll_ms = 600_000\nboot_ms = 60000\nmaterial = 'PLA-1.0_(x)+'\nconnect = true\nnumbered_oks = true\n[limits]\ntool = 500\nbed = 200\n\
 [serve]\npatience = 4000000000\n";
 
 // Whether the script's line at a place is this.
@@ -61,7 +61,7 @@ fn assert_values(
 fn least(rt: HostRuntime) -> Result<(), Fail> {
     let settings = read(rt.alloc(), LEAST, ADMIN, "")??;
     assert_values(&rt, &settings, 1, "A", [1, 1_000, 1_000, 0, 0, 1]);
-    assert!(rt; settings.boot_ms == Some(0) && !settings.connect);
+    assert!(rt; settings.boot_ms == Some(0) && !settings.connect && !settings.numbered_oks);
     Ok(())
 }
 
@@ -70,7 +70,7 @@ fn greatest(rt: HostRuntime) -> Result<(), Fail> {
     let settings = read(rt.alloc(), GREATEST, ADMIN, "")??;
     let wanted = [16, 600_000, 600_000, 500, 200, 4_000_000_000];
     assert_values(&rt, &settings, 2, "PLA-1.0_(x)+", wanted);
-    assert!(rt; settings.boot_ms == Some(60_000) && settings.connect);
+    assert!(rt; settings.boot_ms == Some(60_000) && settings.connect && settings.numbered_oks);
     Ok(())
 }
 
@@ -96,11 +96,20 @@ fn origins(rt: HostRuntime) -> Result<(), Fail> {
     Ok(())
 }
 
+// The least window with numbers.
+#[test]
+fn numbered_oks(rt: HostRuntime) -> Result<(), Fail> {
+    let two = "[printer]\nports = ['p']\nwindow = 2\nnumbered_oks = true\n";
+    let settings = read(rt.alloc(), two, ADMIN, "")??;
+    assert!(rt; settings.window == 2 && settings.numbered_oks);
+    Ok(())
+}
+
 fn are_defaults(rt: &impl Abort, settings: &Settings, ports: usize) {
     has_origins(rt, settings, &[]);
     let wanted = [4, 30_000, 5_000, 300, 120, 6_000];
     assert_values(rt, settings, ports, "any", wanted);
-    assert!(rt; settings.boot_ms.is_none() && !settings.connect);
+    assert!(rt; settings.boot_ms.is_none() && !settings.connect && !settings.numbered_oks);
     assert_eq!(rt; settings.scripts.count(Point::Started), 0);
 }
 

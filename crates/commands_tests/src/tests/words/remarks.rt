@@ -15,7 +15,7 @@ fn said(alloc: Global, line: &str) -> Result<(bool, Vec<u8>), Fail> {
 
 #[test]
 fn what_is_wrong(rt: HostRuntime) -> Result<(), Fail> {
-    let rows: [(&str, &[u8]); 9] = [
+    let rows: [(&str, &[u8]); 11] = [
         (
             "print p",
             b"octo: the following required arguments were not provided:  <file>\n",
@@ -32,6 +32,14 @@ fn what_is_wrong(rt: HostRuntime) -> Result<(), Fail> {
         (
             "print p a --turns 0",
             b"octo: turns has to be a number from 1 to 4000000000000, not: 0\n",
+        ),
+        (
+            "sure p a --turns 0",
+            b"octo: turns has to be a number from 1 to 4000000000000, not: 0\n",
+        ),
+        (
+            "demo 1 2 --lost-replies 2,1",
+            b"octo: lost-replies has to be numbers that rise, with commas between, or -, not: 2,1\n",
         ),
         (
             "demo 1 200001",
