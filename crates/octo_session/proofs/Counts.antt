@@ -3,9 +3,9 @@ use Rattle.std.proofs.Common.{◌≡◌, ℕ, ◌+◌, Bool, true, false, nat_eq
 use Rattle.std.specs.Prelude.{◌&&◌, Result, Ok, Err, nat_lt, length, ◌++◌}
 use Rattle.job_desk.specs.Data.{moment_after, Data, File, Line, with_script}
 use Rattle.job_desk.specs.Table.{connect_at, disconnect_at, select_at, drop_file_step, is_named, start_at, start_file, start_checked, restart_at, pause_at, resume_at, toggle_at, cancel_at, manual_at, add_manual, take_manual, is_stop, stopping, wrong_state}
-use Rattle.job_desk.specs.Pull.{Drawn, draw_in_order, nothing, next_number, keep_number, issue, from_scripts, from_manual, from_poll, poll_is_due, from_file, draw_last, draw_at, is_issued, settle_at, settled, pull_step}
+use Rattle.job_desk.specs.Pull.{Drawn, draw_in_order, nothing, next_number, keep_number, issue, from_scripts, from_manual, from_poll, poll_is_due, from_probe, probe_is_due, from_file, draw_last, draw_at, is_issued, settle_at, settled, pull_step}
 use Rattle.job_desk.specs.Course.{job_line}
-use Rattle.job_desk.specs.Note.{Noted, after_ending, is_over, end_at, hung_up, fail, ready_at, after_open, note_fact, note_step}
+use Rattle.job_desk.specs.Note.{Noted, after_ending, is_over, end_at, hung_up, fail, ready_at, after_open, note_fact, note_step, with_acked}
 use Rattle.job_desk.specs.declared.state.State.{State}
 use Rattle.job_desk.specs.declared.state.Refusal.{Refusal}
 use Rattle.job_desk.specs.declared.state.Refusal.TheVariants as refusal
@@ -156,9 +156,9 @@ counts_fact (fact.Ended end) moment d e = counts_fail d (after_ending d) (counts
 
 -- a note sets how many lines are acknowledged
 pub counts_note : (acknowledged : ℕ) (f : LinkFact) (moment : ℕ) (d : Data) → begins f ≡ false →
-    Counts (record d { acked = acknowledged }) (note_step acknowledged f moment d).1
+    Counts (with_acked acknowledged moment d) (note_step acknowledged f moment d).1
 counts_note acknowledged f moment d e =
-    let told : Data = record d { acked = acknowledged } in
+    let told : Data = with_acked acknowledged moment d in
     let noted : Noted = note_fact f moment told in
     and_then told noted.1 (settled noted.1) (counts_fact f moment told e) (counts_settle noted.1.state noted.1)
 
@@ -172,9 +172,9 @@ pub noted_acked : (acknowledged : ℕ) (f : LinkFact) (moment : ℕ) (d e : Data
 noted_acked acknowledged f moment d e other is = ap (λ (x : Data). x.acked) is ∙ (counts_note acknowledged f moment d other).acked
 
 -- with a new session both counts are 0
-pub counts_opened : (moment : ℕ) (d : Data) → Counts (after_open (record d { acked = 0 })) (note_step 0 fact.Opened moment d).1
+pub counts_opened : (moment : ℕ) (d : Data) → Counts (after_open (with_acked 0 moment d)) (note_step 0 fact.Opened moment d).1
 counts_opened moment d =
-    let told : Data = after_open (record d { acked = 0 }) in
+    let told : Data = after_open (with_acked 0 moment d) in
     let noted : Noted = after_ending told in
     and_then told noted.1 (settled noted.1) (counts_end told.state told) (counts_settle noted.1.state noted.1)
 
@@ -192,9 +192,10 @@ counted_none : (d : Data) → Counted d (nothing d)
 counted_none d = record { issued = refl; acked = refl }
 
 counts_keep : (tag : Tag) (number : ℕ) (d : Data) → Counts d (keep_number tag number d)
-counts_keep (Script point print) number d = cond_both (nat_eq print 0) d (record d { print_line = number }) (λ e. Counts d e) (λ _. same d) (λ _. record { issued = refl; acked = refl })
+counts_keep (Script point print) number d = cond_both (nat_eq print 0) (record d { last_line = number }) (record d { print_line = number; last_line = number })
+    (λ e. Counts d e) (λ _. record { issued = refl; acked = refl }) (λ _. record { issued = refl; acked = refl })
 counts_keep (Job print index) number d = record { issued = refl; acked = refl }
-counts_keep Manual number d = same d
+counts_keep Manual number d = record { issued = refl; acked = refl }
 counts_keep Poll number d = record { issued = refl; acked = refl }
 
 counted_issue : (line : Line) (d e : Data) → e.issued ≡ d.issued → e.acked ≡ d.acked → Counted d (issue line e)
@@ -216,6 +217,12 @@ counted_poll moment d next h =
     let asked : Data = record d { poll_at = moment_after moment d.poll_ms } in
     cond_both (poll_is_due moment d) _ next (λ p. Counted d p) (λ _. counted_issue (record { text = codes "M105"; tag = Poll }) d asked refl refl) (λ _. h)
 
+counted_probe : (awaited moment : ℕ) (d : Data) → Counted d (from_probe awaited moment d)
+counted_probe awaited moment d =
+    let asked : Data = record d { probe_at = moment_after moment d.poll_ms } in
+    cond_both (probe_is_due awaited moment d) _ (nothing d) (λ p. Counted d p) (λ _. counted_issue (record { text = codes "M400"; tag = Poll }) d asked refl refl)
+    (λ _. counted_none d)
+
 counted_file : (text : Option (List ℕ)) (d : Data) → Counted d (from_file text d)
 counted_file None d = counted_none d
 counted_file (Some text) d = counted_issue (job_line d.greatest d.cursor text) d (record d { cursor = d.cursor + 1 }) refl refl
@@ -223,18 +230,18 @@ counted_file (Some text) d = counted_issue (job_line d.greatest d.cursor text) d
 counted_talk : (moment : ℕ) (d : Data) (next : Drawn) → Counted d next → Counted d (draw_in_order moment d next)
 counted_talk moment d next h = counted_scripts d.waiting d _ (counted_from_manual d.manual d _ (counted_poll moment d next h))
 
-counted_last : (b : Bool) (d : Data) → Counted d (draw_last b d)
-counted_last false d = counted_scripts d.waiting d (nothing d) (counted_none d)
-counted_last true d = counted_from_manual d.manual d (nothing d) (counted_none d)
+counted_last : (b : Bool) (moment : ℕ) (d : Data) → Counted d (draw_last b moment d)
+counted_last false moment d = counted_scripts d.waiting d _ (counted_probe d.last_line moment d)
+counted_last true moment d = counted_from_manual d.manual d (nothing d) (counted_none d)
 
 counted_draw : (s : State) (moment : ℕ) (d : Data) → Counted d (draw_at s moment d)
-counted_draw Operational moment d = counted_talk moment d (nothing d) (counted_none d)
+counted_draw Operational moment d = counted_talk moment d _ (counted_probe d.issued moment d)
 counted_draw Printing moment d = counted_talk moment d _ (counted_file _ d)
-counted_draw Pausing moment d = counted_talk moment d (nothing d) (counted_none d)
-counted_draw Paused moment d = counted_talk moment d (nothing d) (counted_none d)
-counted_draw Cancelling moment d = counted_talk moment d (nothing d) (counted_none d)
-counted_draw Finishing moment d = counted_talk moment d (nothing d) (counted_none d)
-counted_draw Closing moment d = counted_last d.stopped d
+counted_draw Pausing moment d = counted_talk moment d _ (counted_probe d.issued moment d)
+counted_draw Paused moment d = counted_talk moment d _ (counted_probe d.issued moment d)
+counted_draw Cancelling moment d = counted_talk moment d _ (counted_probe d.issued moment d)
+counted_draw Finishing moment d = counted_talk moment d _ (counted_probe d.issued moment d)
+counted_draw Closing moment d = counted_last d.stopped moment d
 counted_draw _ moment d = counted_none d
 
 pub counted_pull : (moment : ℕ) (d : Data) → Counted d (pull_step moment d)

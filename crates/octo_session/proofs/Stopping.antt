@@ -6,7 +6,7 @@ use Rattle.std.proofs.lemmas.Bool.Decides.{nat_tests}
 use Rattle.job_desk.specs.Data.{Data}
 use Rattle.job_desk.specs.Table.{is_stopping, is_stopping_at}
 use Rattle.job_desk.specs.Pull.{Drawn, nothing, next_number, from_manual, draw_last, draw_at, settle_at, settled, pull_step}
-use Rattle.job_desk.specs.Note.{end_at, note_step}
+use Rattle.job_desk.specs.Note.{end_at, note_step, with_acked}
 use Rattle.job_desk.specs.declared.link_fact.LinkFact.TheVariants as fact
 use Rattle.job_desk.specs.declared.state.State.{State}
 use Rattle.job_desk.specs.declared.state.State.TheVariants.{Offline, Connecting, Operational, Printing, Pausing, Paused, Cancelling, Finishing, Closing, Fault}
@@ -52,13 +52,13 @@ pub record StopPulled (moment : ℕ) (d : Data) : Type 0 where
 pub stop_pulled : (moment : ℕ) (d : Data) → is_stopping d ≡ true → StopPulled moment d
 stop_pulled moment d e =
     let stop : Stops d = stops_at d.state d refl e in
-    let left : Data = record d { manual = []; issued = next_number d.issued } in
+    let left : Data = record d { manual = []; issued = next_number d.issued; last_line = next_number d.issued } in
     let drew : ◌≡◌ {A = Drawn} (draw_at d.state moment d) (Some (record { text = stop.text; tag = Manual }), left) =
-    ap (λ (s : State). draw_at s moment d) stop.at ∙ ap (λ (b : Bool). draw_last b d) stop.stops
+    ap (λ (s : State). draw_at s moment d) stop.at ∙ ap (λ (b : Bool). draw_last b moment d) stop.stops
     ∙ ap (λ (m : List (List ℕ)). from_manual m d (nothing d)) stop.one in
     let after : (pull_step moment d).1 ≡ left = ap (λ (x : Drawn). settled x.1) drew ∙ ap (λ (s : State). settle_at s left) stop.at in
     let none : (pull_step moment left).0 ≡ None =
-    ap (λ (s : State). (draw_at s moment left).0) stop.at ∙ ap (λ (b : Bool). (draw_last b left).0) stop.stops in
+    ap (λ (s : State). (draw_at s moment left).0) stop.at ∙ ap (λ (b : Bool). (draw_last b moment left).0) stop.stops in
     record {
       some = ap (λ (x : Drawn). is_some x.0) drew;
       then_none = ap (λ (x : Data). (pull_step moment x).0) after ∙ none;
@@ -68,7 +68,7 @@ stop_pulled moment d e =
 pub note_stops : (acked moment : ℕ) (d e : Data) → is_stopping d ≡ true → e ≡ (note_step acked fact.Quiet moment d).1 → is_stopping e ≡ true
 note_stops acked moment d e stops after =
     let stop : Stops d = stops_at d.state d refl stops in
-    let told : Data = record d { acked = acked } in
+    let told : Data = with_acked acked moment d in
     let same : (note_step acked fact.Quiet moment d).1 ≡ told =
     ap (λ (s : State). settled (end_at s told).1) stop.at ∙ ap (λ (s : State). settle_at s told) stop.at in
     let still : is_stopping told ≡ true =

@@ -1,5 +1,5 @@
 -- The lines that a host sent in a session, by its history.
-use Rattle.std.specs.Prelude.{◌≡◌, ℕ, ◌-◌, ◌≤◌, List, slice_get, Some, ◌⊎◌, ◌<◌, true, [], ◌∷◌, ◌++◌, map}
+use Rattle.std.specs.Prelude.{◌≡◌, ℕ, ◌-◌, ◌≤◌, Bool, List, slice_get, Some, ◌⊎◌, ◌<◌, true, [], ◌∷◌, ◌++◌, map}
 use Rattle.marlin_frame.specs.Frame.{frame_of, fails}
 use Rattle.marlin_frame.specs.Numbering.{wire_number, hello_frame}
 use Rattle.marlin_reply.specs.Kind.{kind_of}
@@ -8,7 +8,7 @@ use Rattle.printer_model.specs.World.{WorldData, apply}
 use Rattle.printer_model.specs.Exchanged.{received_by, closes_next}
 use Rattle.printer_model.specs.declared.event.WorldEvent.{WorldEvent}
 use Rattle.printer_model.specs.declared.event.WorldEvent.TheVariants.{Send}
-use Rattle.send_window.specs.Counting.{acked_of}
+use Rattle.send_window.specs.Counting.{acked_as}
 
 -- the text is at a place among the issued ones
 pub record IsIssued (issued : List (List ℕ)) (place : ℕ) (text : List ℕ) : Type 0 where
@@ -33,8 +33,9 @@ abbrev pub IsEventFit : List (List ℕ) → ℕ → WorldEvent → List WorldEve
 IsEventFit issued acked (Send line) later = IsSendFit issued acked line.items later
 IsEventFit issued acked _ later = Unit {0}
 
--- each line sent by these events is such a line, if these replies came before the events
-abbrev pub AreSendsFit : List (List ℕ) → List Reply → WorldData → List WorldEvent → Type 0
-AreSendsFit issued replies w [] = Unit {0}
-AreSendsFit issued replies w (event ∷ events) =
-    IsEventFit issued (acked_of replies) event events × AreSendsFit issued (replies ++ map kind_of (received_by w event)) (apply w event) events
+-- each line sent by these events is such a line, if these replies came before the events; by whether `ok`s count by their numbers
+abbrev pub AreSendsFit : Bool → List (List ℕ) → List Reply → WorldData → List WorldEvent → Type 0
+AreSendsFit numbered issued replies w [] = Unit {0}
+AreSendsFit numbered issued replies w (event ∷ events) =
+    IsEventFit issued (acked_as numbered replies) event events
+    × AreSendsFit numbered issued (replies ++ map kind_of (received_by w event)) (apply w event) events

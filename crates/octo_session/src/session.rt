@@ -44,8 +44,10 @@ impl Model for Session {
 impl Session {
     /// A session of a new desk and a new sender. The link is not up.
     pub fn new(desk: Desk, sender: Sender) -> Session
-        requires new_desk { desk ≡ new_desk desk.scripts desk.limits desk.poll_ms }
-        requires new_sender { sender ≡ new_sender sender.window sender.limit }
+        requires new_desk { desk ≡ new_desk desk.scripts desk.limits desk.poll_ms desk.numbered }
+        requires new_sender { sender
+            ≡ new_sender sender.window sender.numbered sender.limit }
+        requires kind { desk.numbered ≡ sender.numbered }
         ensures desk { result.desk ≡ desk }
         ensures sender { result.sender ≡ sender }
         ensures sound { IsSound result.sender }
