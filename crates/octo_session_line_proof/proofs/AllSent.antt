@@ -29,7 +29,7 @@ use Rattle.octo_session_line_proof.specs.Issuing.{issued_by, issued_after}
 use Rattle.octo_session_line_proof.specs.Pieces.{Each}
 use Rattle.octo_session_line_proof.proofs.Giving.{line_held}
 use Rattle.octo_session_line_proof.proofs.Quiet.{IsIssueOrSend, saying_append, saying_issuing, saying_gives}
-use Rattle.octo_session_line_proof.proofs.Sending.{give_flags, give_keeps_end, tick_flags}
+use Rattle.octo_session_line_proof.proofs.Flags.{give_flags, give_keeps_end, tick_flags}
 
 -- a line that was sent stays so as events join before or after
 sent_before : (bytes : List ℕ) (xs ys : List WorldEvent) → WasSent bytes xs → WasSent bytes (xs ++ ys)

@@ -4,7 +4,7 @@ use Rattle.marlin_frame.specs.Numbering.{wire_number}
 use Rattle.printer_model.specs.Replies.{asked_after}
 use Rattle.send_window.specs.Data.{SenderData, IsSound}
 use Rattle.send_window.specs.Session.{HoldsIssued}
-use Rattle.octo_session_line_proof.specs.Pieces.{Piece, greeting, command, Sent, intact, refusal, IsGreeting, AreLinesFrom}
+use Rattle.octo_session_line_proof.specs.Pieces.{Piece, greeting, command, Sent, intact, Answer, refusal, IsGreeting, AreLinesFrom}
 use Rattle.octo_session.specs.Sends.{IsIssued}
 use Rattle.octo_session_line_proof.specs.Wires.{Wires, last_at, IsAfter, Printed, before, after, lines_run, IsAsked, Phase, shut, early, late, Replies}
 use Rattle.octo_session_line_proof.proofs.Lists.{each_push, lines_push, lines_within}
@@ -14,7 +14,7 @@ use Rattle.octo_session_line_proof.proofs.Reading.{asked_after-next}
 
 -- what a refusal asks for, by what the printer accepted
 pub refusal_asks : (issued : List (List ℕ)) (s : SenderData) (ran d : Bool) (last : ℕ) (queue log : List Piece) → IsSound s → HoldsIssued issued s →
-    IsAfter issued ran d last queue log → (m : ℕ) → d ≡ false → m ≡ lines_run log → IsAsked s.issued m (asked_after last)
+    IsAfter issued ran d last queue log → (m : ℕ) → d ≡ false → m ≤ lines_run log → IsAsked s.issued m (asked_after last)
 refusal_asks issued s ran d last queue log sound holds p m kept same =
     let all : List Piece = p.lines ++ queue in
     let within : 0 + length all ≤ length issued = lines_within issued 0 all p.accepted (omega arith) in
@@ -29,53 +29,53 @@ refusal_asks issued s ran d last queue log sound holds p m kept same =
     }
 
 -- the line at the front is refused
-pub phase_refused : (issued : List (List ℕ)) (s : SenderData) (linked : Bool) (a : Wires) (sent : Sent) (up : List Sent) (number : ℕ) →
-    Phase issued s linked (record a { up = sent ∷ up }) → Phase issued s linked (record a { up = up; way = a.way ++ refusal number ∷ [] })
-phase_refused issued s linked a sent up number (shut closed none idle) = absurd (cc)
-phase_refused issued s linked a sent up number (early opened unready e) = early opened unready (record {
+pub phase_refused : (issued : List (List ℕ)) (s : SenderData) (linked : Bool) (a : Wires) (way : List Answer) (sent : Sent) (up : List Sent) (number : ℕ) →
+    Phase issued s linked (record a { up = sent ∷ up }) way → Phase issued s linked (record a { up = up }) (way ++ refusal number ∷ [])
+phase_refused issued s linked a way sent up number (shut closed none idle) = absurd (cc)
+phase_refused issued s linked a way sent up number (early opened unready e) = early opened unready (record {
   ups = e.ups.1;
-  one = omega (arith, e.one, weights_push a.way (refusal number));
-  due = λ t. omega (arith, e.due t, weights_push a.way (refusal number));
-  run_ok = λ t. omega (arith, e.run_ok t, greetings_push a.way (refusal number));
-  unrun_ok = λ t. omega (arith, e.unrun_ok t, greetings_push a.way (refusal number));
-  way_so = early_push true a.way (refusal number) (λ f. tt) e.way_so;
-  begun_so = begun_push a.dropped a.dropped a.way (refusal number) (λ k. k) tt e.begun_so;
-  swallows = e.swallows ∙ sym (closing_push a.way (refusal number) refl);
+  one = omega (arith, e.one, weights_push way (refusal number));
+  due = λ t. omega (arith, e.due t, weights_push way (refusal number));
+  run_ok = λ t. omega (arith, e.run_ok t, greetings_push way (refusal number));
+  unrun_ok = λ t. omega (arith, e.unrun_ok t, greetings_push way (refusal number));
+  way_so = early_push true way (refusal number) (λ f. tt) e.way_so;
+  begun_so = begun_push a.dropped a.dropped way (refusal number) (λ k. k) tt e.begun_so;
+  swallows = e.swallows ∙ sym (closing_push way (refusal number) refl);
 })
-phase_refused issued s linked a sent up number (late opened ready ran ups) = late opened ready ran ups.1
+phase_refused issued s linked a way sent up number (late opened ready ran ups) = late opened ready ran ups.1
 
-after_ran : (issued : List (List ℕ)) (ran d : Bool) (last : ℕ) (queue log : List Piece) → ran ≡ true → Printed issued ran d last queue log →
+pub after_ran : (issued : List (List ℕ)) (ran d : Bool) (last : ℕ) (queue log : List Piece) → ran ≡ true → Printed issued ran d last queue log →
     IsAfter issued ran d last queue log
 after_ran issued ran d last queue log is (before b) = let unran : ran ≡ false = b.unran in absurd (cc)
 after_ran issued ran d last queue log is (after p) = p
 
-refusal_so : (issued : List (List ℕ)) (s : SenderData) (linked : Bool) (last : ℕ) (a : Wires) (sent : Sent) (up : List Sent) → IsSound s →
-    HoldsIssued issued s → Printed issued a.ran a.dropped last a.queue a.log → Phase issued s linked (record a { up = sent ∷ up }) → s.ready ≡ true → (m : ℕ) →
+refusal_so : (issued : List (List ℕ)) (s : SenderData) (linked : Bool) (last : ℕ) (a : Wires) (way : List Answer) (sent : Sent) (up : List Sent) → IsSound s →
+    HoldsIssued issued s → Printed issued a.ran a.dropped last a.queue a.log → Phase issued s linked (record a { up = sent ∷ up }) way → s.ready ≡ true → (m : ℕ) →
     a.dropped ≡ false → m ≡ lines_run a.log → IsAsked s.issued m (asked_after last)
-refusal_so issued s linked last a sent up sound holds printed (shut closed none idle) ready m kept same = absurd (cc)
-refusal_so issued s linked last a sent up sound holds printed (early opened unready e) ready m kept same = absurd (cc)
-refusal_so issued s linked last a sent up sound holds printed (late opened is_ready ran ups) ready m kept same =
-    refusal_asks issued s a.ran a.dropped last a.queue a.log sound holds (after_ran issued a.ran a.dropped last a.queue a.log ran printed) m kept same
+refusal_so issued s linked last a way sent up sound holds printed (shut closed none idle) ready m kept same = absurd (cc)
+refusal_so issued s linked last a way sent up sound holds printed (early opened unready e) ready m kept same = absurd (cc)
+refusal_so issued s linked last a way sent up sound holds printed (late opened is_ready ran ups) ready m kept same =
+    refusal_asks issued s a.ran a.dropped last a.queue a.log sound holds (after_ran issued a.ran a.dropped last a.queue a.log ran printed) m kept (omega (arith, same))
 
-pub replies_refused : (issued : List (List ℕ)) (s : SenderData) (linked : Bool) (last : ℕ) (a : Wires) (sent : Sent) (up : List Sent) → IsSound s →
-    HoldsIssued issued s → Printed issued a.ran a.dropped last a.queue a.log → Phase issued s linked (record a { up = sent ∷ up }) →
-    Replies s linked a.dropped a.log a.way → Replies s linked a.dropped a.log (a.way ++ refusal (asked_after last) ∷ [])
-replies_refused issued s linked last a sent up sound holds printed phase r =
-    replies_way s linked a.dropped a.dropped a.log a.way (refusal (asked_after last)) refl
-    (λ ready g m kept same. (refusal_so issued s linked last a sent up sound holds printed phase ready m kept same, (kept, same))) r
+pub replies_refused : (issued : List (List ℕ)) (s : SenderData) (linked : Bool) (last : ℕ) (a : Wires) (way : List Answer) (sent : Sent) (up : List Sent) → IsSound s →
+    HoldsIssued issued s → Printed issued a.ran a.dropped last a.queue a.log → Phase issued s linked (record a { up = sent ∷ up }) way →
+    Replies s linked a.dropped a.log way → Replies s linked a.dropped a.log (way ++ refusal (asked_after last) ∷ [])
+replies_refused issued s linked last a way sent up sound holds printed phase r =
+    replies_way s linked a.dropped a.dropped a.log way (refusal (asked_after last)) refl
+    (λ ready g m kept same. (refusal_so issued s linked last a way sent up sound holds printed phase ready m kept same, (kept, same))) r
 
 -- the hello at the front is accepted
-pub record IsTaken (issued : List (List ℕ)) (s : SenderData) (linked : Bool) (last : ℕ) (a : Wires) : Type 0 where
+pub record IsTaken (issued : List (List ℕ)) (s : SenderData) (linked : Bool) (last : ℕ) (a : Wires) (way : List Answer) : Type 0 where
   pub printed : Printed issued a.ran a.dropped last a.queue a.log
-  pub phase : Phase issued s linked a
+  pub phase : Phase issued s linked a way
 
-pub greeting_taken : (issued : List (List ℕ)) (s : SenderData) (linked : Bool) (last number : ℕ) (a : Wires) (up : List Sent) →
-    Printed issued a.ran a.dropped last a.queue a.log → Phase issued s linked (record a { up = intact greeting ∷ up }) →
-    IsTaken issued s linked number (record a { up = up; queue = a.queue ++ greeting ∷ [] })
-greeting_taken issued s linked last number a up printed (shut closed none idle) = absurd (cc)
-greeting_taken issued s linked last number a up printed (late opened ready ran ups) = absurd (ups.0)
-greeting_taken issued s linked last number a up (after p) (early opened unready e) = absurd (omega (arith, e.one, e.run_ok p.has_run, greetings_le a.way))
-greeting_taken issued s linked last number a up (before b) (early opened unready e) =
+pub greeting_taken : (issued : List (List ℕ)) (s : SenderData) (linked : Bool) (last number : ℕ) (a : Wires) (way : List Answer) (up : List Sent) →
+    Printed issued a.ran a.dropped last a.queue a.log → Phase issued s linked (record a { up = intact greeting ∷ up }) way →
+    IsTaken issued s linked number (record a { up = up; queue = a.queue ++ greeting ∷ [] }) way
+greeting_taken issued s linked last number a way up printed (shut closed none idle) = absurd (cc)
+greeting_taken issued s linked last number a way up printed (late opened ready ran ups) = absurd (ups.0)
+greeting_taken issued s linked last number a way up (after p) (early opened unready e) = absurd (omega (arith, e.one, e.run_ok p.has_run, greetings_le way))
+greeting_taken issued s linked last number a way up (before b) (early opened unready e) =
     let longer : length (a.queue ++ greeting ∷ []) ≡ length a.queue + 1 = length-append a.queue (greeting ∷ []) in
     record {
       printed = before (record {
@@ -102,31 +102,33 @@ kept_by : (d : Bool) (last count place : ℕ) → 1 ≤ place → last ≡ last_
 kept_by false last count place some is turn = refl
 kept_by true last count place some is turn = absurd (omega (arith, is, turn))
 
-pub command_taken : (issued : List (List ℕ)) (s : SenderData) (linked : Bool) (last place : ℕ) (text : List ℕ) (a : Wires) (up : List Sent) →
-    wire_number place ≡ last + 1 → Printed issued a.ran a.dropped last a.queue a.log →
-    Phase issued s linked (record a { up = intact (command place text) ∷ up }) →
-    IsTaken issued s linked (wire_number place) (record a { up = up; queue = a.queue ++ command place text ∷ [] })
-command_taken issued s linked last place text a up turn printed (shut closed none idle) = absurd (cc)
-command_taken issued s linked last place text a up turn printed (early opened unready e) = absurd (e.ups.0)
-command_taken issued s linked last place text a up turn (before b) (late opened ready ran ups) = let unran : a.ran ≡ false = b.unran in absurd (cc)
-command_taken issued s linked last place text a up turn (after p) (late opened ready ran ups) =
+pub command_accepted : (issued : List (List ℕ)) (last place : ℕ) (text : List ℕ) (a : Wires) → wire_number place ≡ last + 1 → IsIssued issued place text →
+    IsAfter issued a.ran a.dropped last a.queue a.log → Printed issued a.ran a.dropped (wire_number place) (a.queue ++ command place text ∷ []) a.log
+command_accepted issued last place text a turn its p =
     let piece : Piece = command place text in
     let all : List Piece = p.lines ++ a.queue in
-    let its : IsIssued issued place text = ups.0 in
     let kept : a.dropped ≡ false = kept_by a.dropped last (length all) place its.counted p.last_is turn in
     let number : last ≡ wire_number (length all) = p.last_is ∙ ap (λ (b : Bool). last_at b (length all)) kept in
     let same : all ++ piece ∷ [] ≡ p.lines ++ (a.queue ++ piece ∷ []) = append_assoc p.lines a.queue (piece ∷ []) in
     let more : length (all ++ piece ∷ []) ≡ place = omega (arith, number, turn, length-append all (piece ∷ [])) in
     let Lines : List Piece → Type 0 = λ l. AreLinesFrom issued 1 l in
-    record {
-      printed = after (record {
-        lines = p.lines;
-        has_run = p.has_run;
-        logged = p.logged;
-        accepted = subst Lines same (lines_push issued 1 all place text p.accepted (omega (arith, number, turn)) its);
-        last_is = ap (λ (n : ℕ). last_at false n) (sym more) ∙ ap (λ (b : Bool). last_at b (length (all ++ piece ∷ []))) (sym kept)
-            ∙ ap (λ (l : List Piece). last_at a.dropped (length l)) same;
-        emptied = λ (dropped : a.dropped ≡ true). absurd (cc);
-      });
-      phase = late opened ready ran ups.1;
-    }
+    after (record {
+      lines = p.lines;
+      has_run = p.has_run;
+      logged = p.logged;
+      accepted = subst Lines same (lines_push issued 1 all place text p.accepted (omega (arith, number, turn)) its);
+      last_is = ap (λ (n : ℕ). last_at false n) (sym more) ∙ ap (λ (b : Bool). last_at b (length (all ++ piece ∷ []))) (sym kept)
+          ∙ ap (λ (l : List Piece). last_at a.dropped (length l)) same;
+      emptied = λ (dropped : a.dropped ≡ true). absurd (cc);
+    })
+
+pub command_taken : (issued : List (List ℕ)) (s : SenderData) (linked : Bool) (last place : ℕ) (text : List ℕ) (a : Wires) (way : List Answer) (up : List Sent) →
+    wire_number place ≡ last + 1 → Printed issued a.ran a.dropped last a.queue a.log →
+    Phase issued s linked (record a { up = intact (command place text) ∷ up }) way →
+    IsTaken issued s linked (wire_number place) (record a { up = up; queue = a.queue ++ command place text ∷ [] }) way
+command_taken issued s linked last place text a way up turn printed (shut closed none idle) = absurd (cc)
+command_taken issued s linked last place text a way up turn printed (early opened unready e) = absurd (e.ups.0)
+command_taken issued s linked last place text a way up turn printed (late opened ready ran ups) = record {
+  printed = command_accepted issued last place text a turn ups.0 (after_ran issued a.ran a.dropped last a.queue a.log ran printed);
+  phase = late opened ready ran ups.1;
+}

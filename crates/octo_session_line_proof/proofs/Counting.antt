@@ -1,23 +1,19 @@
 -- The acknowledged lines are counted over the replies that were received.
-use Rattle.std.proofs.Common.{◌≡◌, ℕ, suc, ◌+◌, ◌≤◌, Bool, true, false, not, ◌&&◌, ◌||◌, List, [], ◌∷◌, ◌++◌, map, refl, sym, ◌∙◌, ap, subst, arith}
+use Rattle.std.proofs.Common.{◌≡◌, ℕ, suc, ◌+◌, ◌≤◌, Bool, true, false, not, ◌&&◌, ◌||◌, List, ◌∷◌, refl, sym, ◌∙◌, ap, subst, arith}
 use Rattle.std.specs.Prelude.{Option, None, if◌then◌else◌}
-use Rattle.std.specs.List.{list_any}
-use Rattle.std.proofs.lemmas.Bool.{and_parts, or_left, or_right}
+use Rattle.std.proofs.lemmas.Bool.{and_parts}
 use Rattle.std.proofs.lemmas.Grind.{common_steps}
-use Rattle.std.proofs.lemmas.List.Folds.{list_any-append}
 use Rattle.marlin_frame.specs.Numbering.{wire_number}
 use Rattle.marlin_reply.specs.Kind.{kind_of}
 use Rattle.marlin_reply.specs.declared.reply.Reply.{Reply}
 use Rattle.marlin_reply.specs.declared.reply.Reply.TheVariants as reply
-use Rattle.printer_model.specs.Printer.{Logged}
-use Rattle.printer_model.specs.World.{WorldData}
+use Rattle.printer_model.specs.declared.oks.Oks.{Oks}
 use Rattle.send_window.specs.Data.{SenderData, IsSound}
 use Rattle.send_window.specs.Hearing.{acknowledged, named_ok, heard_start, hear_step}
-use Rattle.send_window.specs.Counting.{is_ok, is_resend, is_pending}
-use Rattle.send_window.proofs.OwnOks.{counts_next}
+use Rattle.send_window.specs.Counting.{is_ok, is_resend}
 use Rattle.octo_session_line_proof.specs.Pieces.{Answer, greeting_ok, command_ok, refusal, asking, closing, chat, restart, Heard, ok_heard, resend_heard, start_heard, talk_heard, heard_of, heard_in, named_by, reply_to}
-use Rattle.octo_session_line_proof.specs.Wires.{Wires, Phase, shut, early, late, IsRead, Numbers, Meets, lines_run}
-use Rattle.octo_session_line_proof.specs.Traces.{oks_of, IsTallied}
+use Rattle.octo_session_line_proof.specs.Wires.{Wires, Phase, shut, early, late, IsRead, Replies, Numbers, Counted, lines_run}
+use Rattle.octo_session_line_proof.specs.Traces.{oks_of}
 use Rattle.octo_session_line_proof.proofs.Ways.{answers_le, IsFirst, first_of_way}
 use Rattle.octo_session_line_proof.proofs.Hearing.{heard_as, hear_as, is_busy, ok_by, named_right, run_few}
 
@@ -34,7 +30,7 @@ is_resend_as (resend_heard number) = true
 is_resend_as start_heard = false
 is_resend_as talk_heard = false
 
-ok_as : (r : Reply) → is_ok r ≡ is_ok_as (heard_of r)
+pub ok_as : (r : Reply) → is_ok r ≡ is_ok_as (heard_of r)
 ok_as (reply.Ok number planner block temps) = refl
 ok_as (reply.Resend number) = refl
 ok_as reply.Start = refl
@@ -43,7 +39,7 @@ ok_as (reply.Temps temps) = refl
 ok_as reply.Error = refl
 ok_as reply.Other = refl
 
-resend_as : (r : Reply) → is_resend r ≡ is_resend_as (heard_of r)
+pub resend_as : (r : Reply) → is_resend r ≡ is_resend_as (heard_of r)
 resend_as (reply.Ok number planner block temps) = refl
 resend_as (reply.Resend number) = refl
 resend_as reply.Start = refl
@@ -58,32 +54,32 @@ pub record IsCounted (h : Heard) (s t : SenderData) : Type 0 where
   pub counts : oks_of t.ready t.acked ≡ oks_of s.ready s.acked + (if is_ok_as h && not s.swallow then 1 else 0)
   pub asks : t.asked_anew ≡ true → (is_resend_as h || s.asked_anew) ≡ true
 
-ok_counted : (number : Option ℕ) (moment : ℕ) (s : SenderData) (swallow ready : Bool) → s.swallow ≡ swallow → s.ready ≡ ready → IsSound s →
+ok_counted : (number : Option ℕ) (moment : ℕ) (s : SenderData) (swallow ready : Bool) → s.numbered ≡ false → s.swallow ≡ swallow → s.ready ≡ ready → IsSound s →
     (s.swallow ≡ false → s.ready ≡ true → named_ok number moment s ≡ acknowledged moment s) →
     IsCounted (ok_heard number) s (heard_as false (ok_heard number) moment s)
-ok_counted number moment s true ready e f sound so =
+ok_counted number moment s true ready kind e f sound so =
     let C : SenderData → Type 0 = λ t. IsCounted (ok_heard number) s t in
     let more : ℕ = if true && not s.swallow then 1 else 0 in
     let none : more ≡ 0 = ap (λ (b : Bool). if true && not b then 1 else 0) e in
-    subst C (sym (ok_by true ready number moment s e f)) (record { swallows = refl; counts = omega (arith, none); asks = λ a. a })
-ok_counted number moment s false false e f sound so =
+    subst C (sym (ok_by true ready number moment s kind e f)) (record { swallows = refl; counts = omega (arith, none); asks = λ a. a })
+ok_counted number moment s false false kind e f sound so =
     let C : SenderData → Type 0 = λ t. IsCounted (ok_heard number) s t in
     let more : ℕ = if true && not s.swallow then 1 else 0 in
     let one : more ≡ 1 = ap (λ (b : Bool). if true && not b then 1 else 0) e in
     let before : oks_of s.ready s.acked ≡ 0 = ap (λ (b : Bool). oks_of b s.acked) f in
-    subst C (sym (ok_by false false number moment s e f))
+    subst C (sym (ok_by false false number moment s kind e f))
     (record { swallows = e; counts = omega (arith, one, before, sound.hello_first f, sound.counted); asks = λ a. a })
-ok_counted number moment s false true e f sound so =
+ok_counted number moment s false true kind e f sound so =
     let C : SenderData → Type 0 = λ t. IsCounted (ok_heard number) s t in
     let more : ℕ = if true && not s.swallow then 1 else 0 in
     let one : more ≡ 1 = ap (λ (b : Bool). if true && not b then 1 else 0) e in
     let before : oks_of s.ready s.acked ≡ s.acked + 1 = ap (λ (b : Bool). oks_of b s.acked) f in
     let later : oks_of s.ready (s.acked + 1) ≡ s.acked + 1 + 1 = ap (λ (b : Bool). oks_of b (s.acked + 1)) f in
-    subst C (sym (ok_by false true number moment s e f ∙ so e f)) (record { swallows = e; counts = omega (arith, one, before, later); asks = λ (a : false ≡ true). absurd (cc) })
+    subst C (sym (ok_by false true number moment s kind e f ∙ so e f)) (record { swallows = e; counts = omega (arith, one, before, later); asks = λ (a : false ≡ true). absurd (cc) })
 
-resend_counted : (number moment : ℕ) (s : SenderData) (ready : Bool) → s.ready ≡ ready →
+resend_counted : (number moment : ℕ) (s : SenderData) (ready : Bool) → s.numbered ≡ false → s.ready ≡ ready →
     IsCounted (resend_heard number) s (heard_as false (resend_heard number) moment s)
-resend_counted number moment s ready f = record { swallows = grind (arith, common_steps); counts = grind (arith, common_steps); asks = λ a. refl }
+resend_counted number moment s ready kind f = record { swallows = grind (arith, common_steps); counts = grind (arith, common_steps); asks = λ a. refl }
 
 start_counted : (moment : ℕ) (s : SenderData) (ready : Bool) → s.ready ≡ ready → IsCounted start_heard s (heard_as false start_heard moment s)
 start_counted moment s true f =
@@ -93,13 +89,13 @@ start_counted moment s false f =
     let C : SenderData → Type 0 = λ t. IsCounted start_heard s t in
     subst C (sym (ap (λ (b : Bool). heard_start b s) f)) (record { swallows = refl; counts = omega arith; asks = λ a. a })
 
-counted : (busy : Bool) (h : Heard) (moment : ℕ) (s : SenderData) → IsSound s →
+counted : (busy : Bool) (h : Heard) (moment : ℕ) (s : SenderData) → s.numbered ≡ false → IsSound s →
     ((number : Option ℕ) → h ≡ ok_heard number → s.swallow ≡ false → s.ready ≡ true → named_ok number moment s ≡ acknowledged moment s) →
     IsCounted h s (heard_as busy h moment s)
-counted busy (ok_heard number) moment s sound so = ok_counted number moment s s.swallow s.ready refl refl sound (so number refl)
-counted busy (resend_heard number) moment s sound so = resend_counted number moment s s.ready refl
-counted busy start_heard moment s sound so = start_counted moment s s.ready refl
-counted busy talk_heard moment s sound so = record { swallows = refl; counts = omega arith; asks = λ a. (and_parts (not busy) s.asked_anew a).1 }
+counted busy (ok_heard number) moment s kind sound so = ok_counted number moment s s.swallow s.ready kind refl refl sound (so number refl)
+counted busy (resend_heard number) moment s kind sound so = resend_counted number moment s s.ready kind refl
+counted busy start_heard moment s kind sound so = start_counted moment s s.ready refl
+counted busy talk_heard moment s kind sound so = record { swallows = refl; counts = omega arith; asks = λ a. (and_parts (not busy) s.asked_anew a).1 }
 
 -- an `ok` of a ready sender that isn't swallowed acknowledges the next line
 awaited : (x : Answer) (way : List Answer) (moment : ℕ) (s : SenderData) (d : Bool) (run : ℕ) → run ≤ s.issued → IsRead s d (x ∷ way) run →
@@ -116,57 +112,23 @@ awaited chat way moment s d run few read number is unswallowed = absurd (cc)
 awaited restart way moment s d run few read number is unswallowed = absurd (cc)
 
 awaited_at : (issued : List (List ℕ)) (moment : ℕ) (s : SenderData) (linked : Bool) (last : ℕ) (a : Wires) (x : Answer) (way : List Answer) → linked ≡ true →
-    s.ended ≡ None → Numbers issued s linked last (record a { way = x ∷ way }) → Phase issued s linked (record a { way = x ∷ way }) → (number : Option ℕ) →
+    s.ended ≡ None → Numbers issued s last a → Replies s linked a.dropped a.log (x ∷ way) → Phase issued s linked a (x ∷ way) → (number : Option ℕ) →
     reply_to x ≡ ok_heard number → s.swallow ≡ false → s.ready ≡ true → named_ok number moment s ≡ acknowledged moment s
-awaited_at issued moment s linked last a x way on running n (shut closed none idle) number is unswallowed ready = absurd (cc)
-awaited_at issued moment s linked last a x way on running n (early opened unready e) number is unswallowed ready = absurd (cc)
-awaited_at issued moment s linked last a x way on running n (late opened is_ready ran ups) number is unswallowed ready =
+awaited_at issued moment s linked last a x way on running n r (shut closed none idle) number is unswallowed ready = absurd (cc)
+awaited_at issued moment s linked last a x way on running n r (early opened unready e) number is unswallowed ready = absurd (cc)
+awaited_at issued moment s linked last a x way on running n r (late opened is_ready ran ups) number is unswallowed ready =
     awaited x way moment s a.dropped (lines_run a.log) (omega (arith, run_few issued a.ran a.dropped last a.queue a.log n.printed, n.holds.count))
-    (n.replies.reads running opened ready) number is unswallowed
+    (r.reads running opened ready) number is unswallowed
 
-counted_first : (start : List Logged) (issued : List (List ℕ)) (moment : ℕ) (s : SenderData) (w : WorldData) (line : List ℕ) (rest : List (List ℕ)) (a : Wires) (way : List Answer) →
-    w.linked ≡ true → s.ended ≡ None → Numbers issued s w.linked w.printer.last (record a { way = way }) → IsFirst line rest way →
-    IsCounted (heard_in line) s (hear_step (kind_of line) moment s)
-counted_first start issued moment s w line rest a way on running n first =
+pub hear_counted : (issued : List (List ℕ)) (moment : ℕ) (s : SenderData) (linked : Bool) (oks : Oks) (last : ℕ) (a : Wires) (line : List ℕ) (rest : List (List ℕ)) →
+    linked ≡ true → s.ended ≡ None → Numbers issued s last a → Counted issued s linked oks a (line ∷ rest) → IsCounted (heard_in line) s (hear_step (kind_of line) moment s)
+hear_counted issued moment s linked oks last a line rest on running n c =
+    let first : IsFirst line rest c.way = first_of_way line rest c.way c.shown in
     let x = first.answer in
-    let N : List Answer → Type 0 = λ l. Numbers issued s w.linked w.printer.last (record a { way = l }) in
-    let m : Numbers issued s w.linked w.printer.last (record a { way = x ∷ first.rest }) = subst N first.is n in
-    let so = counted (is_busy (kind_of line)) (reply_to x) moment s m.sound (awaited_at issued moment s w.linked w.printer.last a x first.rest on running m m.phase) in
+    let P : List Answer → Type 0 = λ l. Phase issued s linked a l in
+    let R : List Answer → Type 0 = λ l. Replies s linked a.dropped a.log l in
+    let so = counted (is_busy (kind_of line)) (reply_to x) moment s c.counts n.sound
+    (awaited_at issued moment s linked last a x first.rest on running n (subst R first.is c.replies) (subst P first.is c.phase)) in
     let C : SenderData → Type 0 = λ t. IsCounted (reply_to x) s t in
     let H : Heard → Type 0 = λ h. IsCounted h s (hear_step (kind_of line) moment s) in
     subst H (sym first.heard) (subst C (sym (hear_as line (reply_to x) moment s running first.heard)) so)
-
-pub hear_counted : (start : List Logged) (issued : List (List ℕ)) (moment : ℕ) (s : SenderData) (w : WorldData) (line : List ℕ) (rest : List (List ℕ)) →
-    w.linked ≡ true → s.ended ≡ None → w.down ≡ line ∷ rest → Meets start issued s w → IsCounted (heard_in line) s (hear_step (kind_of line) moment s)
-hear_counted start issued moment s w line rest on running front m =
-    let first : IsFirst line rest m.wires.way = first_of_way line rest m.wires.way (sym (ap (map heard_in) front) ∙ m.shows.down) in
-    counted_first start issued moment s w line rest m.wires m.wires.way on running m.numbers first
-
--- a Resend is among the replies if the last one is, or if one was before it
-any_asked : (again before : Bool) (replies : List Reply) (r : Reply) → is_resend r ≡ again → (again || before) ≡ true →
-    (before ≡ true → list_any is_resend replies ≡ true) → list_any is_resend (replies ++ r ∷ []) ≡ true
-any_asked true before replies r is so old =
-    list_any-append is_resend replies (r ∷ []) ∙ or_right (list_any is_resend replies) (list_any is_resend (r ∷ [])) (or_left (is_resend r) false is)
-any_asked false before replies r is so old =
-    list_any-append is_resend replies (r ∷ []) ∙ or_left (list_any is_resend replies) (list_any is_resend (r ∷ [])) (old so)
-
--- one more reply is counted over the replies
-pub tally_heard : (replies : List Reply) (r : Reply) (s t : SenderData) → IsTallied replies s → IsCounted (heard_of r) s t → IsTallied (replies ++ r ∷ []) t
-tally_heard replies r s t old c =
-    let h = heard_of r in
-    let pending = is_pending replies in
-    let next = counts_next replies r in
-    let here : ℕ = if is_ok_as h && not s.swallow then 1 else 0 in
-    let there : ℕ = if is_ok r && not pending then 1 else 0 in
-    let same : here ≡ there =
-    ap (λ (b : Bool). if is_ok_as h && not b then 1 else 0) old.pending ∙ ap (λ (b : Bool). if b && not pending then 1 else 0) (sym (ok_as r))
-    in
-    record {
-      pending = c.swallows
-          ∙ ap (λ (b : Bool). is_resend_as h || (not (is_ok_as h) && b)) old.pending
-          ∙ ap (λ (b : Bool). b || (not (is_ok_as h) && pending)) (sym (resend_as r))
-          ∙ ap (λ (b : Bool). is_resend r || (not b && pending)) (sym (ok_as r))
-          ∙ sym next.1;
-      counted = omega (arith, c.counts, same, old.counted, next.0);
-      asked = λ a. any_asked (is_resend_as h) s.asked_anew replies r (resend_as r) (c.asks a) old.asked;
-    }

@@ -7,7 +7,6 @@ use Rattle.std.proofs.lemmas.Grind.{common_steps}
 use Rattle.std.proofs.lemmas.List.Folds.{list_any-append}
 use Rattle.marlin_reply.specs.Kind.{kind_of}
 use Rattle.marlin_reply.specs.declared.reply.Reply.{Reply}
-use Rattle.marlin_reply.specs.declared.reply.Reply.TheVariants as reply
 use Rattle.job_desk.specs.declared.link_fact.LinkFact.{LinkFact}
 use Rattle.job_desk.specs.declared.link_fact.LinkFact.TheVariants as fact
 use Rattle.send_window.specs.declared.session_end.SessionEnd.{SessionEnd}
@@ -17,7 +16,7 @@ use Rattle.printer_model.specs.Exchanged.{sends_since, replies_from}
 use Rattle.printer_model.specs.declared.event.WorldEvent.{WorldEvent}
 use Rattle.printer_model.specs.declared.event.WorldEvent.TheVariants.{Closed}
 use Rattle.printer_model.proofs.Starts.{runs-free, sends_since-append, sends_since-free, received_from-free}
-use Rattle.send_window.specs.Counting.{IsQuiet, own_oks, is_resend}
+use Rattle.send_window.specs.Counting.{IsQuiet, IsUnbegun, is_resend}
 use Rattle.send_window.specs.Data.{SenderData}
 use Rattle.send_window.specs.Hearing.{tick_step}
 use Rattle.send_window.specs.Sending.{frame_step, push_step}
@@ -27,12 +26,11 @@ use Rattle.octo_session.specs.Found.{Got, can_find}
 use Rattle.octo_session.specs.declared.found.Doing.{Doing}
 use Rattle.octo_session.specs.declared.found.Doing.TheVariants.{Dialling, HangingUp, UsingLink, Resting}
 use Rattle.octo_session.specs.Steps.{gives, fails_to_send, hangs_up, after_steps, AreAdded, issuing, issues_then_sends, clock_steps, turn_steps}
-use Rattle.octo_session_line_proof.specs.Wires.{IsFair}
-use Rattle.octo_session_line_proof.specs.Traces.{oks_of, IsTallied}
+use Rattle.octo_session_line_proof.specs.Traces.{oks_of, HasCounted, IsTallied}
 use Rattle.octo_session_line_proof.proofs.Tracing.{replies_from-append}
-use Rattle.octo_session.specs.Causes.{IsSilentSince, IsCaused}
+use Rattle.octo_session.specs.Causes.{IsSilentSince, MayAskBack, IsCaused}
 use Rattle.octo_session.proofs.Stepping.{after_steps-append}
-use Rattle.octo_session_line_proof.proofs.Sending.{give_keeps_end}
+use Rattle.octo_session_line_proof.proofs.Flags.{give_keeps_end}
 
 -- events that neither send nor receive keep a cause
 pub record IsStill (w : WorldData) (added : List WorldEvent) : Type 0 where
@@ -44,24 +42,29 @@ still_replies : (made : WorldData) (rest added : List WorldEvent) → IsStill (w
 still_replies made rest added still =
     replies_from-append made rest added ∙ ap (λ (l : List Reply). replies_from made rest ++ l) still.unheard ∙ append-nil (replies_from made rest)
 
-still_silent : (made : WorldData) (rest added : List WorldEvent) → IsStill (world_from made rest) added → IsSilentSince made rest →
-    IsSilentSince made (rest ++ added)
-still_silent made rest added still (inl none) =
-    inl (ap (own_oks reply.Start) (still_replies made rest added still) ∙ none)
-still_silent made rest added still (inr four) =
+still_silent : (numbered : Bool) (made : WorldData) (rest added : List WorldEvent) → IsStill (world_from made rest) added → IsSilentSince numbered made rest →
+    IsSilentSince numbered made (rest ++ added)
+still_silent numbered made rest added still (inl none) =
+    let U : List Reply → Type 0 = λ l. IsUnbegun numbered l in
+    inl (subst U (sym (still_replies made rest added still)) none)
+still_silent numbered made rest added still (inr four) =
     let same : sends_since 0 (rest ++ added) ≡ sends_since 0 rest = sends_since-append 0 rest added ∙ still.unsent (sends_since 0 rest) in
     inr (omega (arith, same, four))
 
-pub still_caused : (ended : Option SessionEnd) (made : WorldData) (rest added : List WorldEvent) → IsStill (world_from made rest) added →
-    IsCaused ended made rest → IsCaused ended made (rest ++ added)
-still_caused None made rest added still caused = tt
-still_caused (Some (NoAnswer count)) made rest added still caused = still_silent made rest added still caused
-still_caused (Some (AskedBack number acknowledged)) made rest added still caused = caused
-still_caused (Some (AskedAhead number all)) made rest added still caused = caused
-still_caused (Some (Counts number expected)) made rest added still caused = caused
-still_caused (Some Restarted) made rest added still caused = list_any-append is_restart rest added ∙ or_left (list_any is_restart rest) (list_any is_restart added) caused
-still_caused (Some (LostOk limits)) made rest added still caused = ap (list_any is_resend) (still_replies made rest added still) ∙ caused
-still_caused (Some (NumbersUsed all)) made rest added still caused = tt
+still_back : (numbered : Bool) (rest added : List WorldEvent) → MayAskBack numbered rest → MayAskBack numbered (rest ++ added)
+still_back false rest added may = may
+still_back true rest added may = list_any-append is_restart rest added ∙ or_left (list_any is_restart rest) (list_any is_restart added) may
+
+pub still_caused : (numbered : Bool) (ended : Option SessionEnd) (made : WorldData) (rest added : List WorldEvent) → IsStill (world_from made rest) added →
+    IsCaused numbered ended made rest → IsCaused numbered ended made (rest ++ added)
+still_caused numbered None made rest added still caused = tt
+still_caused numbered (Some (NoAnswer count)) made rest added still caused = still_silent numbered made rest added still caused
+still_caused numbered (Some (AskedBack number acknowledged)) made rest added still caused = still_back numbered rest added caused
+still_caused numbered (Some (AskedAhead number all)) made rest added still caused = caused
+still_caused numbered (Some (Counts number expected)) made rest added still caused = caused
+still_caused numbered (Some Restarted) made rest added still caused = list_any-append is_restart rest added ∙ or_left (list_any is_restart rest) (list_any is_restart added) caused
+still_caused numbered (Some (LostOk limits)) made rest added still caused = ap (list_any is_resend) (still_replies made rest added still) ∙ caused
+still_caused numbered (Some (NumbersUsed all)) made rest added still caused = tt
 
 still_free : (w : WorldData) (events : List WorldEvent) → list_all is_free events ≡ true → IsStill w events
 still_free w events free = record { unsent = λ since. sends_since-free since events free; unheard = ap (map kind_of) (received_from-free w events free) }
@@ -100,13 +103,20 @@ still_idle w added (inl free) = still_free w added free
 still_idle w added (inr closed) =
     (let S : List WorldEvent → Type 0 = λ es. IsStill w es in subst S (sym closed) (record { unsent = λ since. refl; unheard = refl }))
 
--- a session that has counted no `ok`, or is ready
+-- a session that has counted no `ok`
+unbegun_by : (numbered : Bool) (replies : List Reply) (s : SenderData) → s.ready ≡ false → HasCounted numbered replies s → IsUnbegun numbered replies
+unbegun_by false replies s is counts =
+    let none : oks_of s.ready s.acked ≡ 0 = ap (λ (b : Bool). oks_of b s.acked) is in
+    sym counts.counted ∙ none
+unbegun_by true replies s is names = sym names.greeted ∙ is
+
+-- such a session, or one that is ready
 silent_by : (replies : List Reply) (s : SenderData) (since : ℕ) (made : WorldData) (rest : List WorldEvent) (ready : Bool) →
     s.ready ≡ ready → IsTallied replies s → replies ≡ replies_from made rest → since ≡ sends_since 0 rest → (ready ≡ true → 4 ≤ since) →
-    IsSilentSince made rest
+    IsSilentSince s.numbered made rest
 silent_by replies s since made rest false is tallied same count four =
-    let none : oks_of s.ready s.acked ≡ 0 = ap (λ (b : Bool). oks_of b s.acked) is in
-    inl (ap (own_oks reply.Start) (sym same) ∙ sym tallied.counted ∙ none)
+    let U : List Reply → Type 0 = λ l. IsUnbegun s.numbered l in
+    inl (subst U same (unbegun_by s.numbered replies s is tallied.counts))
 silent_by replies s since made rest true is tallied same count four = inr (omega (arith, count, four refl))
 
 -- the clock ends a session for silence alone, at the fifth limit
@@ -120,14 +130,13 @@ tick_silent moment count s since running quiet ends ready =
 pub record IsAt (made : WorldData) (rest : List WorldEvent) (s : SenderData) : Type 0 where
   pub tallied : IsTallied (replies_from made rest) s
   pub quiet : IsQuiet (sends_since 0 rest) s
-  pub caused : IsCaused s.ended made rest
-  pub fair : IsFair s.ended
+  pub caused : IsCaused s.numbered s.ended made rest
 
 tick_none : (moment : ℕ) (s : SenderData) (why : SessionEnd) → s.ended ≡ Some why → (tick_step moment s).ended ≡ Some why
 tick_none moment s why is = grind (arith, common_steps)
 
 tick_caused_by : (moment : ℕ) (made : WorldData) (rest : List WorldEvent) (s : SenderData) (ended : Option SessionEnd) → IsAt made rest s →
-    s.ended ≡ None → (tick_step moment s).ended ≡ ended → IsCaused ended made rest
+    s.ended ≡ None → (tick_step moment s).ended ≡ ended → IsCaused s.numbered ended made rest
 tick_caused_by moment made rest s None at running is = tt
 tick_caused_by moment made rest s (Some (NoAnswer count)) at running is =
     silent_by (replies_from made rest) s (sends_since 0 rest) made rest s.ready refl at.tallied refl refl (λ ready. tick_silent moment count s (sends_since 0 rest) running at.quiet is ready)
@@ -139,10 +148,10 @@ tick_caused_by moment made rest s (Some (LostOk limits)) at running is = at.tall
 tick_caused_by moment made rest s (Some (NumbersUsed all)) at running is = tt
 
 pub tick_caused : (moment : ℕ) (made : WorldData) (rest : List WorldEvent) (s : SenderData) (ended : Option SessionEnd) → s.ended ≡ ended →
-    IsAt made rest s → IsCaused (tick_step moment s).ended made rest
+    IsAt made rest s → IsCaused s.numbered (tick_step moment s).ended made rest
 tick_caused moment made rest s None is at = tick_caused_by moment made rest s (tick_step moment s).ended at is refl
 tick_caused moment made rest s (Some why) is at =
-    let C : Option SessionEnd → Type 0 = λ e. IsCaused e made rest in
+    let C : Option SessionEnd → Type 0 = λ e. IsCaused s.numbered e made rest in
     subst C (sym (tick_none moment s why is)) (subst C is at.caused)
 
 -- what issuing and sending leave of the end

@@ -8,23 +8,24 @@ use Rattle.std.specs.List.{list_all}
 use Rattle.arrayvec.specs.ArrayVec.{ArrayVec}
 use Rattle.marlin_frame.specs.Frame.{fails}
 use Rattle.marlin_reply.specs.declared.reply.Reply.{Reply}
-use Rattle.printer_model.specs.Printer.{Logged}
 use Rattle.printer_model.specs.World.{WorldData, is_free, fits_wire, can_happen, happen, apply, world_from}
 use Rattle.printer_model.specs.Exchanged.{is_closed, closes_next, replies_from}
 use Rattle.printer_model.specs.declared.event.WorldEvent.{WorldEvent}
 use Rattle.printer_model.specs.declared.event.WorldEvent.TheVariants.{Send, Closed}
 use Rattle.printer_model.proofs.Laws.{happens, after_event, world_from-linked}
 use Rattle.send_window.specs.Data.{SenderData, IsSound}
-use Rattle.send_window.specs.Counting.{acked_of}
+use Rattle.send_window.specs.Counting.{acked_of, acked_as}
 use Rattle.send_window.specs.Laws.{IsUnacknowledged}
 use Rattle.send_window.specs.Sending.{Outgoing, hello, line, bytes_of_outgoing, next_of, frame_step}
 use Rattle.send_window.specs.Session.{HoldsIssued}
 use Rattle.octo_session_line_proof.specs.Pieces.{Each, greeting, command, Sent, intact, corrupted, bytes_on, IsFailing}
 use Rattle.octo_session.specs.Sends.{IsIssued, IsSendFit}
-use Rattle.octo_session_line_proof.specs.Wires.{Meets}
-use Rattle.octo_session_line_proof.specs.Traces.{oks_of, IsTallied, IsStartKnown}
+use Rattle.octo_session_line_proof.specs.Wires.{Start, Meets}
+use Rattle.octo_session_line_proof.specs.Traces.{oks_of, CountsOks, HasCounted, IsTallied, IsStartKnown}
+use Rattle.octo_session_line_proof.proofs.Free.{Allows}
 use Rattle.octo_session_line_proof.proofs.Starting.{starts_more}
-use Rattle.octo_session_line_proof.proofs.Sending.{MaySend, give_flags, give_meets, sent_meets, closed_meets}
+use Rattle.octo_session_line_proof.proofs.Flags.{MaySend, give_flags}
+use Rattle.octo_session_line_proof.proofs.Sending.{give_meets, sent_meets, closed_meets}
 use Rattle.octo_session_line_proof.proofs.Tracing.{Leads, extends_none, leads_then, leads_none, leads_free, tally_same}
 
 -- what is returned is the hello or a line above acked
@@ -48,13 +49,22 @@ some_is_due s hello sound is unready = hello_is_due s is
 some_is_due s (line place text) sound is unready = grind (arith, common_steps)
 
 -- how many lines the replies acknowledge
-pub tally_acked : (replies : List Reply) (s : SenderData) (ready : Bool) → s.ready ≡ ready → IsSound s → IsTallied replies s → acked_of replies ≡ s.acked
-tally_acked replies s true is sound tallied =
+counted_acked : (replies : List Reply) (s : SenderData) (ready : Bool) → s.ready ≡ ready → IsSound s → CountsOks replies s → acked_of replies ≡ s.acked
+counted_acked replies s true is sound tallied =
     let count : oks_of s.ready s.acked ≡ s.acked + 1 = ap (λ (b : Bool). oks_of b s.acked) is in
     omega (arith, count, tallied.counted)
-tally_acked replies s false is sound tallied =
+counted_acked replies s false is sound tallied =
     let count : oks_of s.ready s.acked ≡ 0 = ap (λ (b : Bool). oks_of b s.acked) is in
     omega (arith, count, tallied.counted, sound.hello_first is, sound.counted)
+
+acked_by : (replies : List Reply) (s : SenderData) (numbered : Bool) → IsSound s → HasCounted numbered replies s → acked_as numbered replies ≡ s.acked
+acked_by replies s false sound counts = counted_acked replies s s.ready refl sound counts
+acked_by replies s true sound names = sym names.named
+
+pub tally_acked : (replies : List Reply) (s : SenderData) (numbered : Bool) → s.numbered ≡ numbered → IsSound s → IsTallied replies s → acked_as numbered replies ≡ s.acked
+tally_acked replies s numbered kind sound tallied =
+    let K : Bool → Type 0 = λ b. HasCounted b replies s in
+    acked_by replies s numbered sound (subst K kind tallied.counts)
 
 -- what a line that is returned is on the wire
 sent_as : Outgoing → Sent
@@ -90,12 +100,12 @@ may_send_failing issued s next bytes sound is failing = record {
   late_so = λ ready. failing;
 }
 
-send_fits : (issued : List (List ℕ)) (s : SenderData) (replies : List Reply) (next : Outgoing) (bytes : List ℕ) (behind : List WorldEvent) → IsSound s →
-    HoldsIssued issued s → IsTallied replies s → next_of s ≡ Some next → bytes ≡ bytes_of_outgoing next → IsSendFit issued (acked_of replies) bytes behind
-send_fits issued s replies hello bytes behind sound holds tallied is written = inl written
-send_fits issued s replies (line place text) bytes behind sound holds tallied is written =
+send_fits : (numbered : Bool) (issued : List (List ℕ)) (s : SenderData) (replies : List Reply) (next : Outgoing) (bytes : List ℕ) (behind : List WorldEvent) → s.numbered ≡ numbered → IsSound s →
+    HoldsIssued issued s → IsTallied replies s → next_of s ≡ Some next → bytes ≡ bytes_of_outgoing next → IsSendFit issued (acked_as numbered replies) bytes behind
+send_fits numbered issued s replies hello bytes behind kind sound holds tallied is written = inl written
+send_fits numbered issued s replies (line place text) bytes behind kind sound holds tallied is written =
     let its = line_held s issued place text sound holds is in
-    let acked : acked_of replies ≡ s.acked = tally_acked replies s s.ready refl sound tallied in
+    let acked : acked_as numbered replies ≡ s.acked = tally_acked replies s numbered kind sound tallied in
     inr (inl (record {
       place = place;
       text = text;
@@ -117,7 +127,7 @@ sent_starts : (w : WorldData) (sent : ArrayVec ℕ) (events : List WorldEvent) �
 sent_starts w sent events all =
     after_event (λ v. Each (IsStartKnown (events ++ Send sent ∷ [])) v.down) w (Send sent) (starts_more events (Send sent ∷ []) w.down all) (λ can. starts_more events (Send sent ∷ []) w.down all)
 
-module _ (start : List Logged) (issued : List (List ℕ)) where
+module _ (start : Start) (issued : List (List ℕ)) where
   -- the link is closed
   pub leads_closed : (s : SenderData) (w : WorldData) (replies : List Reply) → w.linked ≡ true → Meets start issued s w → IsTallied replies s →
       Leads start issued issued s w replies (Closed ∷ [])
@@ -134,10 +144,10 @@ module _ (start : List Logged) (issued : List (List ℕ)) where
       }
 
   -- after what the line and the printer do
-  pub leads_loss : (s : SenderData) (w : WorldData) (replies : List Reply) (events : List WorldEvent) → list_all is_free events ≡ true → w.linked ≡ true →
+  pub leads_loss : (s : SenderData) (w : WorldData) (replies : List Reply) (events : List WorldEvent) → list_all is_free events ≡ true → Allows start events → w.linked ≡ true →
       Meets start issued s w → IsTallied replies s → Leads start issued issued s w replies (events ++ Closed ∷ [])
-  leads_loss s w replies events free on m tallied =
-      let first = leads_free start issued s w replies events free m tallied in
+  leads_loss s w replies events free allows on m tallied =
+      let first = leads_free start issued s w replies events free allows m tallied in
       let still : (world_from w events).linked ≡ true = world_from-linked w events free ∙ on in
       leads_then start issued issued issued s s w replies events (Closed ∷ []) first
       (leads_closed s (world_from w events) (replies ++ replies_from w events) still first.meets first.tallied)
@@ -148,7 +158,7 @@ module _ (start : List Logged) (issued : List (List ℕ)) where
   leads_given moment s w replies m tallied =
       let flags = give_flags moment s in
       leads_none start issued issued (frame_step moment s) w replies (extends_none issued) (give_meets start issued moment s w m)
-      (tally_same start replies s (frame_step moment s) flags.swallow flags.ready flags.acked flags.asks tallied)
+      (tally_same start replies s (frame_step moment s) flags.kind flags.swallow flags.ready flags.acked flags.asks tallied)
 
   -- what is returned is sent
   pub leads_sent : (moment : ℕ) (s : SenderData) (w : WorldData) (replies : List Reply) (next : Outgoing) (sent : ArrayVec ℕ) → next_of s ≡ Some next →
@@ -166,16 +176,16 @@ module _ (start : List Logged) (issued : List (List ℕ)) where
         extends = extends_none issued;
         meets = subst M (sym (happens w (Send sent) can))
             (sent_meets start issued moment s w (sent_as next) sent.items on (written ∙ bytes_as next) (given_undue moment s next n.sound is) (may_send issued s next n.sound n.holds is) m);
-        tallied = subst T (sym (append-nil replies)) (tally_same start replies s t flags.swallow flags.ready flags.acked flags.asks tallied);
-        sends = (send_fits issued s replies next sent.items [] n.sound n.holds tallied is written, tt);
+        tallied = subst T (sym (append-nil replies)) (tally_same start replies s t flags.kind flags.swallow flags.ready flags.acked flags.asks tallied);
+        sends = (send_fits start.numbered issued s replies next sent.items [] m.begun.kind n.sound n.holds tallied is written, tt);
         starts = λ events all. sent_starts w sent events all;
       }
 
   -- a line that fails is sent in its place, and the link is closed
   pub leads_failing : (moment : ℕ) (s : SenderData) (w : WorldData) (replies : List Reply) (next : Outgoing) (sent : ArrayVec ℕ) (behind : List WorldEvent) →
-      next_of s ≡ Some next → fails sent.items ≡ true → can_happen w (Send sent) ≡ true → list_all is_free behind ≡ true → Meets start issued s w →
+      next_of s ≡ Some next → fails sent.items ≡ true → can_happen w (Send sent) ≡ true → list_all is_free behind ≡ true → Allows start behind → Meets start issued s w →
       IsTallied replies s → Leads start issued issued (frame_step moment s) w replies (Send sent ∷ (behind ++ Closed ∷ []))
-  leads_failing moment s w replies next sent behind is failing can free m tallied =
+  leads_failing moment s w replies next sent behind is failing can free allows m tallied =
       let n = m.numbers in
       let on : w.linked ≡ true = (and_parts w.linked (fits_wire sent.items) can).0 in
       let t = frame_step moment s in
@@ -184,9 +194,9 @@ module _ (start : List Logged) (issued : List (List ℕ)) where
       let same : v ≡ apply w (Send sent) = sym (happens w (Send sent) can) in
       let T : List Reply → Type 0 = λ l. IsTallied l t in
       let met : Meets start issued t v = sent_meets start issued moment s w (corrupted sent.items) sent.items on refl (given_undue moment s next n.sound is) (may_send_failing issued s next sent.items n.sound is failing) m in
-      let told : IsTallied (replies ++ []) t = subst T (sym (append-nil replies)) (tally_same start replies s t flags.swallow flags.ready flags.acked flags.asks tallied) in
+      let told : IsTallied (replies ++ []) t = subst T (sym (append-nil replies)) (tally_same start replies s t flags.kind flags.swallow flags.ready flags.acked flags.asks tallied) in
       let L : WorldData → Type 0 = λ u. Leads start issued issued t u (replies ++ []) (behind ++ Closed ∷ []) in
-      let led : Leads start issued issued t (apply w (Send sent)) (replies ++ []) (behind ++ Closed ∷ []) = subst L same (leads_loss t v (replies ++ []) behind free on met told) in
+      let led : Leads start issued issued t (apply w (Send sent)) (replies ++ []) (behind ++ Closed ∷ []) = subst L same (leads_loss t v (replies ++ []) behind free allows on met told) in
       let U : List Reply → Type 0 = λ l. IsTallied (l ++ replies_from (apply w (Send sent)) (behind ++ Closed ∷ [])) t in
       record {
         same_session = led.same_session;

@@ -1,5 +1,5 @@
 -- A reply on the way is received, and the sender hears it.
-use Rattle.std.proofs.Common.{◌≡◌, ℕ, suc, ◌+◌, ◌<◌, ◌≤◌, Bool, true, false, List, [], ◌∷◌, ◌++◌, length, map, drop, refl, sym, ◌∙◌, ap, subst, append-nil, length-append, arith}
+use Rattle.std.proofs.Common.{◌≡◌, ℕ, suc, ◌+◌, ◌<◌, ◌≤◌, Bool, true, false, List, [], ◌∷◌, ◌++◌, length, refl, sym, ◌∙◌, ap, subst, length-append, arith}
 use Rattle.std.specs.Prelude.{Option, Some, None, if◌then◌else◌, not, ◌&&◌, nat_lt, ◌==◌}
 use Rattle.std.proofs.lemmas.Bool.{lt-ltb, le-ltb, lt-leb, eq-eqb}
 use Rattle.marlin_frame.specs.Numbering.{wire_number, place_of}
@@ -8,16 +8,13 @@ use Rattle.marlin_reply.specs.declared.reply.Reply.{Reply}
 use Rattle.marlin_reply.specs.declared.reply.Reply.TheVariants as reply
 use Rattle.send_window.specs.declared.session_end.SessionEnd.{SessionEnd}
 use Rattle.send_window.specs.declared.session_end.SessionEnd.TheVariants.{AskedBack, AskedAhead, Counts, Restarted, NumbersUsed}
-use Rattle.printer_model.specs.Printer.{Logged}
-use Rattle.printer_model.specs.World.{WorldData, happen}
-use Rattle.printer_model.specs.declared.event.WorldEvent.TheVariants.{Recv}
+use Rattle.printer_model.specs.declared.oks.Oks.{Oks}
 use Rattle.send_window.specs.Data.{SenderData, IsSound, most_lines}
-use Rattle.send_window.specs.Hearing.{after_hearing, ended_by, after_swallowed_ok, made_ready, acknowledged, line_ok, named_ok, heard_ok, hello_asked, line_asked, resend_asked, heard_resend, heard_start, heard_reply, unless_ended, hear_step}
+use Rattle.send_window.specs.Hearing.{after_hearing, ended_by, after_swallowed_ok, made_ready, acknowledged, line_ok, named_ok, heard_ok, ok_in, hello_asked, line_asked, resend_asked, heard_resend, heard_start, heard_reply, unless_ended, hear_step}
 use Rattle.send_window.specs.Session.{HoldsIssued, hears}
-use Rattle.send_window.proofs.Issued.{step_holds}
-use Rattle.send_window.proofs.Soundness.{hears_sound}
+use Rattle.send_window.proofs.Sending.{keeps_kind}
 use Rattle.octo_session_line_proof.specs.Pieces.{Piece, Sent, Each, IsSentLate, AreLinesFrom, Answer, greeting_ok, command_ok, refusal, asking, closing, chat, restart, Heard, ok_heard, resend_heard, start_heard, talk_heard, heard_of, heard_in, named_by, reply_to, rest_of}
-use Rattle.octo_session_line_proof.specs.Wires.{Wires, Shows, Printed, before, after, lines_run, weights, is_closing, IsAsked, Answers, IsEarly, Phase, shut, early, late, IsFair, IsRead, Replies, Numbers, Meets}
+use Rattle.octo_session_line_proof.specs.Wires.{Wires, Printed, before, after, lines_run, weights, is_closing, IsAsked, Answers, IsEarly, Phase, shut, early, late, IsFair, IsRead, Replies, Numbers, Counted}
 use Rattle.octo_session_line_proof.proofs.Lists.{none_left, lines_none, lines_within, lines_front}
 use Rattle.octo_session_line_proof.proofs.Ways.{early_front, early_unclosing, answers_front, answers_unclosing, answers_le, answers_begin, IsFirst, first_of_way}
 use Rattle.octo_session_line_proof.proofs.Moves.{IsAfterStep}
@@ -33,7 +30,7 @@ after_talk busy s = record s { heard = true; asked_anew = not busy && s.asked_an
 
 -- a sender after a reply, by what the reply does
 abbrev pub heard_as : Bool → Heard → ℕ → SenderData → SenderData
-heard_as busy (ok_heard number) moment s = heard_ok s.swallow s.ready number moment s
+heard_as busy (ok_heard number) moment s = ok_in s.numbered number moment s
 heard_as busy (resend_heard number) moment s = heard_resend s.ready number moment s
 heard_as busy start_heard moment s = heard_start s.ready s
 heard_as busy talk_heard moment s = after_talk busy s
@@ -54,16 +51,17 @@ hear_as line heard moment s running is =
     ∙ reply_as (kind_of line) moment s
     ∙ ap (λ (h : Heard). heard_as (is_busy (kind_of line)) h moment s) is
 
-pub ok_by : (swallow ready : Bool) (number : Option ℕ) (moment : ℕ) (s : SenderData) → s.swallow ≡ swallow → s.ready ≡ ready →
-    heard_ok s.swallow s.ready number moment s ≡ heard_ok swallow ready number moment s
-ok_by swallow ready number moment s e f =
-    ap (λ (b : Bool). heard_ok b s.ready number moment s) e ∙ ap (λ (b : Bool). heard_ok swallow b number moment s) f
+pub ok_by : (swallow ready : Bool) (number : Option ℕ) (moment : ℕ) (s : SenderData) → s.numbered ≡ false → s.swallow ≡ swallow → s.ready ≡ ready →
+    ok_in s.numbered number moment s ≡ heard_ok swallow ready number moment s
+ok_by swallow ready number moment s counts e f =
+    ap (λ (b : Bool). ok_in b number moment s) counts
+    ∙ ap (λ (b : Bool). heard_ok b s.ready number moment s) e ∙ ap (λ (b : Bool). heard_ok swallow b number moment s) f
 
 -- before the hello's `ok` was read: a sender that stays as it was but for marks
 early_stays : (s t : SenderData) (linked d : Bool) (log : List Piece) (way : List Answer) → s.ready ≡ false → t.ready ≡ s.ready → t.acked ≡ s.acked →
     t.ended ≡ s.ended → Replies s linked d log way → (way' : List Answer) → Replies t linked d log way'
 early_stays s t linked d log way unready same acked ended r way' = record {
-  fair = subst IsFair (sym ended) r.fair;
+  fair = subst (λ (e : Option SessionEnd). IsFair false e) (sym ended) r.fair;
   acked_run = omega (arith, acked, r.acked_run);
   reads = λ running opened (ready : t.ready ≡ true). absurd (cc);
 }
@@ -71,7 +69,7 @@ early_stays s t linked d log way unready same acked ended r way' = record {
 module _ (issued : List (List ℕ)) (moment : ℕ) (s : SenderData) (linked : Bool) (last : ℕ) where
   hello_heard : (a : Wires) (named : Bool) (way : List Answer) → IsSound s → HoldsIssued issued s → Printed issued a.ran a.dropped last a.queue a.log →
       linked ≡ true → s.ended ≡ None → s.ready ≡ false → IsEarly s a.ran a.dropped a.queue a.up (greeting_ok named ∷ way) →
-      IsAfterStep issued (made_ready s) linked (record a { way = way })
+      IsAfterStep issued (made_ready s) linked a way
   hello_heard a named way sound holds printed opened running unready e = hello_by printed
     where
       none : issued ≡ []
@@ -87,7 +85,7 @@ module _ (issued : List (List ℕ)) (moment : ℕ) (s : SenderData) (linked : Bo
       ran : a.ran ≡ true
       ran = ran_by a.ran refl
 
-      hello_by : Printed issued a.ran a.dropped last a.queue a.log → IsAfterStep issued (made_ready s) linked (record a { way = way })
+      hello_by : Printed issued a.ran a.dropped last a.queue a.log → IsAfterStep issued (made_ready s) linked a way
       hello_by (before b) =
           let unran : a.ran ≡ false = b.unran in
           let is : a.ran ≡ true = ran in
@@ -108,7 +106,7 @@ module _ (issued : List (List ℕ)) (moment : ℕ) (s : SenderData) (linked : Bo
           record {
             phase = late opened refl ran (subst Ups (sym gone) tt);
             replies = record {
-              fair = subst IsFair (sym running) tt;
+              fair = subst (λ (e : Option SessionEnd). IsFair false e) (sym running) tt;
               acked_run = omega (arith, acked);
               reads = λ _ _ _. record {
                 swallows = e.swallows ∙ sym (early_unclosing way e.way_so);
@@ -117,14 +115,14 @@ module _ (issued : List (List ℕ)) (moment : ℕ) (s : SenderData) (linked : Bo
             };
           }
 
-  early_heard : (busy : Bool) (a : Wires) (x : Answer) (way : List Answer) → IsSound s → HoldsIssued issued s → Printed issued a.ran a.dropped last a.queue a.log →
+  early_heard : (busy : Bool) (a : Wires) (x : Answer) (way : List Answer) → s.numbered ≡ false → IsSound s → HoldsIssued issued s → Printed issued a.ran a.dropped last a.queue a.log →
       linked ≡ true → s.ended ≡ None → s.ready ≡ false → IsEarly s a.ran a.dropped a.queue a.up (x ∷ way) → Replies s linked a.dropped a.log (x ∷ way) →
-      IsAfterStep issued (heard_as busy (reply_to x) moment s) linked (record a { way = rest_of x way })
-  early_heard busy a (greeting_ok named) way sound holds printed opened running unready e r =
-      let H : SenderData → Type 0 = λ t. IsAfterStep issued t linked (record a { way = way }) in
-      subst H (sym (ok_by false false (named_by named 0) moment s e.swallows unready)) (hello_heard a named way sound holds printed opened running unready e)
-  early_heard busy a (command_ok place named) way sound holds printed opened running unready e r = absurd (e.way_so)
-  early_heard busy a (refusal number) way sound holds printed opened running unready e r = record {
+      IsAfterStep issued (heard_as busy (reply_to x) moment s) linked a (rest_of x way)
+  early_heard busy a (greeting_ok named) way counts sound holds printed opened running unready e r =
+      let H : SenderData → Type 0 = λ t. IsAfterStep issued t linked a way in
+      subst H (sym (ok_by false false (named_by named 0) moment s counts e.swallows unready)) (hello_heard a named way sound holds printed opened running unready e)
+  early_heard busy a (command_ok place named) way counts sound holds printed opened running unready e r = absurd (e.way_so)
+  early_heard busy a (refusal number) way counts sound holds printed opened running unready e r = record {
     phase = early opened unready (record {
       ups = e.ups;
       one = omega (arith, e.one);
@@ -137,8 +135,8 @@ module _ (issued : List (List ℕ)) (moment : ℕ) (s : SenderData) (linked : Bo
     });
     replies = early_stays s (after_talk busy s) linked a.dropped a.log (refusal number ∷ way) unready refl refl refl r (asking number ∷ way);
   }
-  early_heard busy a (asking number) way sound holds printed opened running unready e r =
-      let H : SenderData → Type 0 = λ t. IsAfterStep issued t linked (record a { way = closing ∷ way }) in
+  early_heard busy a (asking number) way counts sound holds printed opened running unready e r =
+      let H : SenderData → Type 0 = λ t. IsAfterStep issued t linked a (closing ∷ way) in
       let same : heard_resend s.ready number moment s ≡ hello_asked moment s = ap (λ (b : Bool). heard_resend b number moment s) unready in
       subst H (sym same) (record {
         phase = early opened unready (record {
@@ -149,13 +147,13 @@ module _ (issued : List (List ℕ)) (moment : ℕ) (s : SenderData) (linked : Bo
           unrun_ok = λ t. omega (arith, e.unrun_ok t);
           way_so = (refl, e.way_so.1);
           begun_so = e.begun_so;
-          swallows = refl;
+          swallows = ap not counts;
         });
         replies = early_stays s (hello_asked moment s) linked a.dropped a.log (asking number ∷ way) unready refl refl refl r (closing ∷ way);
       })
-  early_heard busy a closing way sound holds printed opened running unready e r =
-      let H : SenderData → Type 0 = λ t. IsAfterStep issued t linked (record a { way = way }) in
-      subst H (sym (ok_by true false None moment s e.swallows unready)) (record {
+  early_heard busy a closing way counts sound holds printed opened running unready e r =
+      let H : SenderData → Type 0 = λ t. IsAfterStep issued t linked a way in
+      subst H (sym (ok_by true false None moment s counts e.swallows unready)) (record {
         phase = early opened unready (record {
           ups = e.ups;
           one = omega (arith, e.one);
@@ -168,7 +166,7 @@ module _ (issued : List (List ℕ)) (moment : ℕ) (s : SenderData) (linked : Bo
         });
         replies = early_stays s (after_swallowed_ok s) linked a.dropped a.log (closing ∷ way) unready refl refl refl r way;
       })
-  early_heard busy a chat way sound holds printed opened running unready e r = record {
+  early_heard busy a chat way counts sound holds printed opened running unready e r = record {
     phase = early opened unready (record {
       ups = e.ups;
       one = omega (arith, e.one);
@@ -181,8 +179,8 @@ module _ (issued : List (List ℕ)) (moment : ℕ) (s : SenderData) (linked : Bo
     });
     replies = early_stays s (after_talk busy s) linked a.dropped a.log (chat ∷ way) unready refl refl refl r way;
   }
-  early_heard busy a restart way sound holds printed opened running unready e r =
-      let H : SenderData → Type 0 = λ t. IsAfterStep issued t linked (record a { way = way }) in
+  early_heard busy a restart way counts sound holds printed opened running unready e r =
+      let H : SenderData → Type 0 = λ t. IsAfterStep issued t linked a way in
       let same : heard_start s.ready s ≡ after_hearing s = ap (λ (b : Bool). heard_start b s) unready in
       subst H (sym same) (record {
         phase = early opened unready (record {
@@ -209,16 +207,16 @@ named_right true place moment s is more =
     ap (λ (b : Bool). if b then line_ok moment s else ended_by (Counts (wire_number place) (wire_number (s.acked + 1))) s) (eq-eqb (wire_number place) (wire_number (s.acked + 1)) (omega (arith, is)))
     ∙ line_right moment s more
 
-fair_end : (b : Bool) (all : ℕ) → IsFair (if b then Some (NumbersUsed all) else None)
-fair_end true all = tt
-fair_end false all = tt
+pub fair_end : (d b : Bool) (all : ℕ) → IsFair d (if b then Some (NumbersUsed all) else None)
+fair_end d true all = tt
+fair_end d false all = tt
 
 -- a Resend of a line that may be asked for
-asked_right : (number moment : ℕ) (s : SenderData) → IsAsked s.issued s.acked number → resend_asked number moment s ≡ line_asked (place_of number) moment s
+pub asked_right : (number moment : ℕ) (s : SenderData) → IsAsked s.issued s.acked number → resend_asked number moment s ≡ line_asked (place_of number) moment s
 asked_right number moment s is =
-    ap (λ (b : Bool). if b then ended_by (AskedBack number (wire_number s.acked)) (record s { swallow = true }) else if nat_lt (wire_number (s.issued + 1)) number then ended_by (AskedAhead number (wire_number s.issued)) (record s { swallow = true }) else line_asked (place_of number) moment s)
+    ap (λ (b : Bool). if b then ended_by (AskedBack number (wire_number s.acked)) (record s { swallow = not s.numbered }) else if nat_lt (wire_number (s.issued + 1)) number then ended_by (AskedAhead number (wire_number s.issued)) (record s { swallow = not s.numbered }) else line_asked (place_of number) moment s)
     (lt-leb number (wire_number s.acked) (omega (arith, is.is, is.above)))
-    ∙ ap (λ (b : Bool). if b then ended_by (AskedAhead number (wire_number s.issued)) (record s { swallow = true }) else line_asked (place_of number) moment s)
+    ∙ ap (λ (b : Bool). if b then ended_by (AskedAhead number (wire_number s.issued)) (record s { swallow = not s.numbered }) else line_asked (place_of number) moment s)
     (le-ltb (wire_number (s.issued + 1)) number (omega (arith, is.is, is.within)))
 
 module _ (issued : List (List ℕ)) (moment : ℕ) (s : SenderData) (linked : Bool) where
@@ -226,35 +224,35 @@ module _ (issued : List (List ℕ)) (moment : ℕ) (s : SenderData) (linked : Bo
   late_stays : (t : SenderData) (a : Wires) (x : Answer) (way way' : List Answer) → linked ≡ true → s.ready ≡ true → a.ran ≡ true →
       Each (IsSentLate issued) a.up → t.ready ≡ s.ready → t.acked ≡ s.acked → t.issued ≡ s.issued → t.ended ≡ s.ended → t.swallow ≡ is_closing way' →
       Replies s linked a.dropped a.log (x ∷ way) → Answers true a.dropped s.issued s.acked way' (lines_run a.log) →
-      IsAfterStep issued t linked (record a { way = way' })
+      IsAfterStep issued t linked a way'
   late_stays t a x way way' opened ready ran ups same acked all ended swallows r answers =
       let N : ℕ → Type 0 = λ n. Answers true a.dropped n t.acked way' (lines_run a.log) in
       let A : ℕ → Type 0 = λ m. Answers true a.dropped s.issued m way' (lines_run a.log) in
       record {
         phase = late opened (same ∙ ready) ran ups;
         replies = record {
-          fair = subst IsFair (sym ended) r.fair;
+          fair = subst (λ (e : Option SessionEnd). IsFair false e) (sym ended) r.fair;
           acked_run = omega (arith, acked, r.acked_run);
           reads = λ _ _ _. record { swallows = swallows; answers = subst N (sym all) (subst A (sym acked) answers) };
         };
       }
 
-  late_heard : (busy : Bool) (a : Wires) (x : Answer) (way : List Answer) → lines_run a.log ≤ s.issued → linked ≡ true → s.ended ≡ None → s.ready ≡ true → a.ran ≡ true →
+  late_heard : (busy : Bool) (a : Wires) (x : Answer) (way : List Answer) → s.numbered ≡ false → lines_run a.log ≤ s.issued → linked ≡ true → s.ended ≡ None → s.ready ≡ true → a.ran ≡ true →
       Each (IsSentLate issued) a.up → IsRead s a.dropped (x ∷ way) (lines_run a.log) → Replies s linked a.dropped a.log (x ∷ way) →
-      IsAfterStep issued (heard_as busy (reply_to x) moment s) linked (record a { way = rest_of x way })
-  late_heard busy a (greeting_ok named) way few opened running ready ran ups read r = absurd (read.answers)
-  late_heard busy a (command_ok place named) way few opened running ready ran ups read r =
-      let H : SenderData → Type 0 = λ t. IsAfterStep issued t linked (record a { way = way }) in
+      IsAfterStep issued (heard_as busy (reply_to x) moment s) linked a (rest_of x way)
+  late_heard busy a (greeting_ok named) way counts few opened running ready ran ups read r = absurd (read.answers)
+  late_heard busy a (command_ok place named) way counts few opened running ready ran ups read r =
+      let H : SenderData → Type 0 = λ t. IsAfterStep issued t linked a way in
       let more : suc s.acked ≤ lines_run a.log = answers_le false a.dropped s.issued (suc s.acked) way (lines_run a.log) read.answers.1 in
-      let same : heard_ok s.swallow s.ready (named_by named (wire_number place)) moment s ≡ acknowledged moment s =
-      ok_by false true (named_by named (wire_number place)) moment s read.swallows ready ∙ named_right named place moment s read.answers.0 (omega (arith, more, few))
+      let same : ok_in s.numbered (named_by named (wire_number place)) moment s ≡ acknowledged moment s =
+      ok_by false true (named_by named (wire_number place)) moment s counts read.swallows ready ∙ named_right named place moment s read.answers.0 (omega (arith, more, few))
       in
       let A : ℕ → Type 0 = λ m. Answers true a.dropped s.issued m way (lines_run a.log) in
       let next : suc s.acked ≡ s.acked + 1 = omega arith in
       subst H (sym same) (record {
         phase = late opened ready ran ups;
         replies = record {
-          fair = fair_end (s.acked + 1 == most_lines) s.issued;
+          fair = fair_end false (s.acked + 1 == most_lines) s.issued;
           acked_run = omega (arith, more);
           reads = λ _ _ _. record {
             swallows = read.swallows ∙ sym (answers_unclosing a.dropped s.issued (suc s.acked) way (lines_run a.log) read.answers.1);
@@ -262,24 +260,24 @@ module _ (issued : List (List ℕ)) (moment : ℕ) (s : SenderData) (linked : Bo
           };
         };
       })
-  late_heard busy a (refusal number) way few opened running ready ran ups read r =
+  late_heard busy a (refusal number) way counts few opened running ready ran ups read r =
       late_stays (after_talk busy s) a (refusal number) way (asking number ∷ way) opened ready ran ups refl refl refl refl read.swallows r (refl, read.answers.0, read.answers.1)
-  late_heard busy a (asking number) way few opened running ready ran ups read r =
-      let H : SenderData → Type 0 = λ t. IsAfterStep issued t linked (record a { way = closing ∷ way }) in
+  late_heard busy a (asking number) way counts few opened running ready ran ups read r =
+      let H : SenderData → Type 0 = λ t. IsAfterStep issued t linked a (closing ∷ way) in
       let same : heard_resend s.ready number moment s ≡ line_asked (place_of number) moment s =
       ap (λ (b : Bool). heard_resend b number moment s) ready ∙ asked_right number moment s read.answers.1
       in
-      subst H (sym same) (late_stays (line_asked (place_of number) moment s) a (asking number) way (closing ∷ way) opened ready ran ups refl refl refl refl refl r (refl, read.answers.2))
-  late_heard busy a closing way few opened running ready ran ups read r =
-      let H : SenderData → Type 0 = λ t. IsAfterStep issued t linked (record a { way = way }) in
-      subst H (sym (ok_by true true None moment s read.swallows ready))
+      subst H (sym same) (late_stays (line_asked (place_of number) moment s) a (asking number) way (closing ∷ way) opened ready ran ups refl refl refl refl (ap not counts) r (refl, read.answers.2))
+  late_heard busy a closing way counts few opened running ready ran ups read r =
+      let H : SenderData → Type 0 = λ t. IsAfterStep issued t linked a way in
+      subst H (sym (ok_by true true None moment s counts read.swallows ready))
       (late_stays (after_swallowed_ok s) a closing way way opened ready ran ups refl refl refl refl (sym (answers_unclosing a.dropped s.issued s.acked way (lines_run a.log) read.answers.1)) r
       (answers_front a.dropped s.issued s.acked way (lines_run a.log) read.answers.1))
-  late_heard busy a chat way few opened running ready ran ups read r =
+  late_heard busy a chat way counts few opened running ready ran ups read r =
       late_stays (after_talk busy s) a chat way way opened ready ran ups refl refl refl refl (read.swallows ∙ sym (answers_unclosing a.dropped s.issued s.acked way (lines_run a.log) read.answers)) r
       (answers_front a.dropped s.issued s.acked way (lines_run a.log) read.answers)
-  late_heard busy a restart way few opened running ready ran ups read r =
-      let H : SenderData → Type 0 = λ t. IsAfterStep issued t linked (record a { way = way }) in
+  late_heard busy a restart way counts few opened running ready ran ups read r =
+      let H : SenderData → Type 0 = λ t. IsAfterStep issued t linked a way in
       let same : heard_start s.ready s ≡ ended_by Restarted s = ap (λ (b : Bool). heard_start b s) ready in
       subst H (sym same) (record {
         phase = late opened ready ran ups;
@@ -298,50 +296,35 @@ run_few issued ran d last queue log (after p) =
     omega (arith, run, lines_within issued 0 p.lines (lines_front issued 1 p.lines queue p.accepted) (omega arith))
 
 heard_by : (busy : Bool) (issued : List (List ℕ)) (moment : ℕ) (s : SenderData) (linked : Bool) (last : ℕ) (a : Wires) (x : Answer) (way : List Answer) → linked ≡ true →
-    s.ended ≡ None → Numbers issued s linked last (record a { way = x ∷ way }) → Phase issued s linked (record a { way = x ∷ way }) →
-    IsAfterStep issued (heard_as busy (reply_to x) moment s) linked (record a { way = rest_of x way })
-heard_by busy issued moment s linked last a x way on running n (shut closed none idle) = absurd (cc)
-heard_by busy issued moment s linked last a x way on running n (early opened unready e) =
-    early_heard issued moment s linked last busy a x way n.sound n.holds n.printed opened running unready e n.replies
-heard_by busy issued moment s linked last a x way on running n (late opened ready ran ups) =
-    late_heard issued moment s linked busy a x way (omega (arith, run_few issued a.ran a.dropped last a.queue a.log n.printed, n.holds.count)) opened running ready ran ups (n.replies.reads running opened ready) n.replies
-
-heard_meets : (start : List Logged) (issued : List (List ℕ)) (moment : ℕ) (s : SenderData) (w : WorldData) (line : List ℕ) (rest : List (List ℕ)) (a : Wires) (way : List Answer) →
-    w.linked ≡ true → s.ended ≡ None → w.down ≡ line ∷ rest → Shows start (record a { way = way }) w →
-    Numbers issued s w.linked w.printer.last (record a { way = way }) → IsFirst line rest way →
-    Meets start issued (hear_step (kind_of line) moment s) (happen w Recv)
-heard_meets start issued moment s w line rest a way on running front sh n first =
-    let x = first.answer in
-    let N : List Answer → Type 0 = λ l. Numbers issued s w.linked w.printer.last (record a { way = l }) in
-    let m : Numbers issued s w.linked w.printer.last (record a { way = x ∷ first.rest }) = subst N first.is n in
-    let so : IsAfterStep issued (heard_as (is_busy (kind_of line)) (reply_to x) moment s) w.linked (record a { way = rest_of x first.rest }) = heard_by (is_busy (kind_of line)) issued moment s w.linked w.printer.last a x first.rest on running m m.phase in
-    let same : hear_step (kind_of line) moment s ≡ heard_as (is_busy (kind_of line)) (reply_to x) moment s = hear_as line (reply_to x) moment s running first.heard in
-    let H : SenderData → Type 0 = λ t. IsAfterStep issued t w.linked (record a { way = rest_of x first.rest }) in
-    let heard_so : IsAfterStep issued (hear_step (kind_of line) moment s) w.linked (record a { way = rest_of x first.rest }) = subst H (sym same) so in
-    let Holds : List (List ℕ) → Type 0 = λ texts. HoldsIssued texts (hear_step (kind_of line) moment s) in
-    record {
-      wires = record a { way = rest_of x first.rest };
-      shows = record {
-        few = sh.few;
-        plain = sh.plain;
-        queue = sh.queue;
-        log = sh.log;
-        up = sh.up;
-        down = ap (λ (l : List (List ℕ)). map heard_in (drop 1 l)) front ∙ first.after;
-      };
-      numbers = record {
-        sound = hears_sound (kind_of line) moment s n.sound;
-        holds = subst Holds (append-nil issued) (step_holds (hears (kind_of line) moment) s issued n.holds);
-        fit = n.fit;
-        printed = n.printed;
-        phase = heard_so.phase;
-        replies = heard_so.replies;
-      };
-    }
+    s.ended ≡ None → s.numbered ≡ false → Numbers issued s last a → Replies s linked a.dropped a.log (x ∷ way) → Phase issued s linked a (x ∷ way) →
+    IsAfterStep issued (heard_as busy (reply_to x) moment s) linked a (rest_of x way)
+heard_by busy issued moment s linked last a x way on running counts n r (shut closed none idle) = absurd (cc)
+heard_by busy issued moment s linked last a x way on running counts n r (early opened unready e) =
+    early_heard issued moment s linked last busy a x way counts n.sound n.holds n.printed opened running unready e r
+heard_by busy issued moment s linked last a x way on running counts n r (late opened ready ran ups) =
+    late_heard issued moment s linked busy a x way counts (omega (arith, run_few issued a.ran a.dropped last a.queue a.log n.printed, n.holds.count)) opened running ready ran ups
+    (r.reads running opened ready) r
 
 -- a reply is received and heard
-pub hear_meets : (start : List Logged) (issued : List (List ℕ)) (moment : ℕ) (s : SenderData) (w : WorldData) (line : List ℕ) (rest : List (List ℕ)) →
-    w.linked ≡ true → s.ended ≡ None → w.down ≡ line ∷ rest → Meets start issued s w → Meets start issued (hear_step (kind_of line) moment s) (happen w Recv)
-hear_meets start issued moment s w line rest on running front m =
-    let first : IsFirst line rest m.wires.way = first_of_way line rest m.wires.way (sym (ap (map heard_in) front) ∙ m.shows.down) in
-    heard_meets start issued moment s w line rest m.wires m.wires.way on running front m.shows m.numbers first
+pub heard_counted : (issued : List (List ℕ)) (moment : ℕ) (s : SenderData) (linked : Bool) (oks : Oks) (last : ℕ) (a : Wires) (line : List ℕ) (rest : List (List ℕ)) →
+    linked ≡ true → s.ended ≡ None → Numbers issued s last a → Counted issued s linked oks a (line ∷ rest) →
+    Counted issued (hear_step (kind_of line) moment s) linked oks a rest
+heard_counted issued moment s linked oks last a line rest on running n c =
+    let first : IsFirst line rest c.way = first_of_way line rest c.way c.shown in
+    let x = first.answer in
+    let P : List Answer → Type 0 = λ l. Phase issued s linked a l in
+    let R : List Answer → Type 0 = λ l. Replies s linked a.dropped a.log l in
+    let so : IsAfterStep issued (heard_as (is_busy (kind_of line)) (reply_to x) moment s) linked a (rest_of x first.rest) =
+    heard_by (is_busy (kind_of line)) issued moment s linked last a x first.rest on running c.counts n (subst R first.is c.replies) (subst P first.is c.phase)
+    in
+    let same : hear_step (kind_of line) moment s ≡ heard_as (is_busy (kind_of line)) (reply_to x) moment s = hear_as line (reply_to x) moment s running first.heard in
+    let H : SenderData → Type 0 = λ t. IsAfterStep issued t linked a (rest_of x first.rest) in
+    let heard_so : IsAfterStep issued (hear_step (kind_of line) moment s) linked a (rest_of x first.rest) = subst H (sym same) so in
+    record {
+      counts = keeps_kind (hears (kind_of line) moment) s ∙ c.counts;
+      plain = c.plain;
+      way = rest_of x first.rest;
+      shown = first.after;
+      phase = heard_so.phase;
+      replies = heard_so.replies;
+    }

@@ -1,5 +1,5 @@
 -- Histories with one session more, or with none.
-use Rattle.std.proofs.Common.{◌≡◌, suc, true, false, List, [], ◌∷◌, ◌++◌, length, take, drop, refl, sym, ◌∙◌, ap, subst, append-nil, arith}
+use Rattle.std.proofs.Common.{◌≡◌, suc, Bool, true, false, List, [], ◌∷◌, ◌++◌, length, take, drop, refl, sym, ◌∙◌, ap, subst, append-nil, arith}
 use Rattle.std.specs.Prelude.{filter, Option, Some, None}
 use Rattle.printer_model.specs.Printer.{Logged}
 use Rattle.printer_model.specs.World.{world_of}
@@ -8,7 +8,7 @@ use Rattle.printer_model.specs.Exchanged.{events_of_session, replies_from}
 use Rattle.printer_model.specs.declared.event.WorldEvent.{WorldEvent}
 use Rattle.printer_model.proofs.Sessions.{till-all, opens-append}
 use Rattle.printer_link.specs.Link.{LinkKind, Recorded}
-use Rattle.send_window.specs.Counting.{acked_of}
+use Rattle.send_window.specs.Counting.{acked_as}
 use Rattle.octo_session.specs.Sends.{AreSendsFit}
 use Rattle.octo_session.specs.Tied.{HasIssued, world_before}
 
@@ -16,9 +16,14 @@ drop_whole : {X : Type 0} (xs : List X) → drop (length xs) xs ≡ []
 drop_whole [] = refl
 drop_whole (x ∷ xs) = drop_whole xs
 
+-- no reply acknowledges nothing
+none_acked : (numbered : Bool) → 0 ≡ acked_as numbered []
+none_acked true = refl
+none_acked false = refl
+
 -- a history without another session: nothing was executed in it
-pub none_printed : (kind : LinkKind) (past added : List WorldEvent) → opens added ≡ 0 → HasIssued kind [] 0 past added
-none_printed kind past added none =
+pub none_printed : (numbered : Bool) (kind : LinkKind) (past added : List WorldEvent) → opens added ≡ 0 → HasIssued numbered kind [] 0 past added
+none_printed numbered kind past added none =
     let all : List WorldEvent = past ++ added in
     let few : opens all ≡ opens past = omega (arith, opens-append past added, none) in
     let upto : till (suc (opens past)) all ≡ all = till-all (suc (opens past)) all (omega (arith, few)) in
@@ -35,13 +40,13 @@ none_printed kind past added none =
     ∙ drop_whole all
     in
     let E : List Logged → Type 0 = λ l. l ≡ logged_from 1 (take (length l) []) in
-    let A : List WorldEvent → Type 0 = λ es. 0 ≡ acked_of (replies_from (world_before kind all (suc (opens past))) es) in
-    let S : List WorldEvent → Type 0 = λ es. AreSendsFit [] [] (world_before kind all (suc (opens past))) es in
+    let A : List WorldEvent → Type 0 = λ es. 0 ≡ acked_as numbered (replies_from (world_before kind all (suc (opens past))) es) in
+    let S : List WorldEvent → Type 0 = λ es. AreSendsFit numbered [] [] (world_before kind all (suc (opens past))) es in
     record {
       once = omega (arith, none);
       tied = record {
         executed_first = subst E (sym ran) refl;
-        acked_is = subst A (sym events) refl;
+        acked_is = subst A (sym events) (none_acked numbered);
         acked_run = omega arith;
         sends = subst S (sym events) tt;
       };

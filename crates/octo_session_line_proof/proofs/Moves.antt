@@ -10,13 +10,13 @@ use Rattle.octo_session_line_proof.proofs.Ways.{weights_push, greetings_push, gr
 use Rattle.octo_session_line_proof.proofs.Reading.{last_after-greeting, last_after-command}
 
 -- fewer lines, or others of the same kind, are on the wire to the printer
-pub phase_up : (issued : List (List ℕ)) (s : SenderData) (linked : Bool) (a : Wires) (up : List Sent) → length up ≤ length a.up →
-    (Each IsSentEarly a.up → Each IsSentEarly up) → (Each (IsSentLate issued) a.up → Each (IsSentLate issued) up) → Phase issued s linked a →
-    Phase issued s linked (record a { up = up })
-phase_up issued s linked a up le early_so late_so (shut closed none idle) =
+pub phase_up : (issued : List (List ℕ)) (s : SenderData) (linked : Bool) (a : Wires) (way : List Answer) (up : List Sent) → length up ≤ length a.up →
+    (Each IsSentEarly a.up → Each IsSentEarly up) → (Each (IsSentLate issued) a.up → Each (IsSentLate issued) up) → Phase issued s linked a way →
+    Phase issued s linked (record a { up = up }) way
+phase_up issued s linked a way up le early_so late_so (shut closed none idle) =
     let few : length a.up ≡ 0 = ap length none in
     shut closed (none_left up (omega (arith, le, few))) idle
-phase_up issued s linked a up le early_so late_so (early opened unready e) = early opened unready (record {
+phase_up issued s linked a way up le early_so late_so (early opened unready e) = early opened unready (record {
   ups = early_so e.ups;
   one = omega (arith, e.one, le);
   due = λ d. omega (arith, e.due d, le);
@@ -26,7 +26,7 @@ phase_up issued s linked a up le early_so late_so (early opened unready e) = ear
   begun_so = e.begun_so;
   swallows = e.swallows;
 })
-phase_up issued s linked a up le early_so late_so (late opened ready ran ups) = late opened ready ran (late_so ups)
+phase_up issued s linked a way up le early_so late_so (late opened ready ran ups) = late opened ready ran (late_so ups)
 
 -- an answer that weighs nothing joins the way, and the queue doesn't grow
 pub early_way : (s : SenderData) (ran d d' : Bool) (queue queue' : List Piece) (up : List Sent) (way : List Answer) (x : Answer) → weight_of x ≡ 0 →
@@ -57,24 +57,24 @@ replies_way s linked d d' log way x other so r = record {
 }
 
 -- another reply
-pub phase_chat : (issued : List (List ℕ)) (s : SenderData) (linked : Bool) (a : Wires) → linked ≡ true → Phase issued s linked a →
-    Phase issued s linked (record a { way = a.way ++ chat ∷ [] })
-phase_chat issued s linked a on (shut closed none idle) = absurd (cc)
-phase_chat issued s linked a on (early opened unready e) =
-    early opened unready (early_way s a.ran a.dropped a.dropped a.queue a.queue a.up a.way chat refl refl refl (omega arith) (λ f. tt) (λ k. k) tt e)
-phase_chat issued s linked a on (late opened ready ran ups) = late opened ready ran ups
+pub phase_chat : (issued : List (List ℕ)) (s : SenderData) (linked : Bool) (a : Wires) (way : List Answer) → linked ≡ true → Phase issued s linked a way →
+    Phase issued s linked a (way ++ chat ∷ [])
+phase_chat issued s linked a way on (shut closed none idle) = absurd (cc)
+phase_chat issued s linked a way on (early opened unready e) =
+    early opened unready (early_way s a.ran a.dropped a.dropped a.queue a.queue a.up way chat refl refl refl (omega arith) (λ f. tt) (λ k. k) tt e)
+phase_chat issued s linked a way on (late opened ready ran ups) = late opened ready ran ups
 
 pub replies_chat : (s : SenderData) (linked d : Bool) (log : List Piece) (way : List Answer) → Replies s linked d log way →
     Replies s linked d log (way ++ chat ∷ [])
 replies_chat s linked d log way r = replies_way s linked d d log way chat refl (λ ready g m kept same. (kept, same)) r
 
 -- the printer restarts
-pub phase_restart : (issued : List (List ℕ)) (s : SenderData) (linked : Bool) (a : Wires) → linked ≡ true → Phase issued s linked a →
-    Phase issued s linked (record a { dropped = a.ran; queue = []; way = a.way ++ restart ∷ [] })
-phase_restart issued s linked a on (shut closed none idle) = absurd (cc)
-phase_restart issued s linked a on (early opened unready e) =
-    early opened unready (early_way s a.ran a.dropped a.ran a.queue [] a.up a.way restart refl refl refl (omega arith) (λ f. tt) (λ k. tt) tt e)
-phase_restart issued s linked a on (late opened ready ran ups) = late opened ready ran ups
+pub phase_restart : (issued : List (List ℕ)) (s : SenderData) (linked : Bool) (a : Wires) (way : List Answer) → linked ≡ true → Phase issued s linked a way →
+    Phase issued s linked (record a { dropped = a.ran; queue = [] }) (way ++ restart ∷ [])
+phase_restart issued s linked a way on (shut closed none idle) = absurd (cc)
+phase_restart issued s linked a way on (early opened unready e) =
+    early opened unready (early_way s a.ran a.dropped a.ran a.queue [] a.up way restart refl refl refl (omega arith) (λ f. tt) (λ k. tt) tt e)
+phase_restart issued s linked a way on (late opened ready ran ups) = late opened ready ran ups
 
 pub replies_restart : (s : SenderData) (linked d d' : Bool) (log : List Piece) (way : List Answer) → Replies s linked d log way →
     Replies s linked d' log (way ++ restart ∷ [])
@@ -137,15 +137,15 @@ pub run_grows : (log : List Piece) (piece : Piece) → lines_run log ≤ lines_r
 run_grows [] piece = omega arith
 run_grows (first ∷ log) piece = omega (arith, length-append log (piece ∷ []))
 
-run_counts : (log lines : List Piece) (piece : Piece) → log ≡ greeting ∷ lines →
+pub run_counts : (log lines : List Piece) (piece : Piece) → log ≡ greeting ∷ lines →
     (lines_run log ≡ length lines) × (lines_run (log ++ piece ∷ []) ≡ suc (length lines))
 run_counts log lines piece is =
     (ap lines_run is, ap (λ (l : List Piece). lines_run (l ++ piece ∷ [])) is ∙ (omega (arith, length-append lines (piece ∷ []))))
 
 -- the phase and the replies after one step: a run, or a reply that was heard
-pub record IsAfterStep (issued : List (List ℕ)) (s : SenderData) (linked : Bool) (a : Wires) : Type 0 where
-  pub phase : Phase issued s linked a
-  pub replies : Replies s linked a.dropped a.log a.way
+pub record IsAfterStep (issued : List (List ℕ)) (s : SenderData) (linked : Bool) (a : Wires) (way : List Answer) : Type 0 where
+  pub phase : Phase issued s linked a way
+  pub replies : Replies s linked a.dropped a.log way
 
 run_early : (s : SenderData) (ran d : Bool) (queue : List Piece) (up : List Sent) (way : List Answer) (named : Bool) → ran ≡ false → d ≡ false →
     IsEarly s ran d (greeting ∷ queue) up way → IsEarly s true d queue up (way ++ greeting_ok named ∷ [])
@@ -160,25 +160,25 @@ run_early s ran d queue up way named unran kept e = record {
   swallows = e.swallows ∙ sym (closing_push way (greeting_ok named) refl);
 }
 
-pub run_open : (issued : List (List ℕ)) (s : SenderData) (linked : Bool) (last : ℕ) (a : Wires) (piece : Piece) (queue : List Piece) (named : Bool) →
-    linked ≡ true → Printed issued a.ran a.dropped last (piece ∷ queue) a.log → Phase issued s linked (record a { queue = piece ∷ queue }) →
-    Replies s linked a.dropped a.log a.way →
-    IsAfterStep issued s linked (record a { ran = true; queue = queue; log = a.log ++ piece ∷ []; way = a.way ++ answer_to piece named ∷ [] })
-run_open issued s linked last a piece queue named on printed (shut closed none idle) r = absurd (cc)
-run_open issued s linked last a (command place text) queue named on (before b) (early opened unready e) r = absurd (b.greetings.0)
-run_open issued s linked last a greeting queue named on (before b) (early opened unready e) r = record {
-  phase = early opened unready (run_early s a.ran a.dropped queue a.up a.way named b.unran b.kept e);
+pub run_open : (issued : List (List ℕ)) (s : SenderData) (linked : Bool) (last : ℕ) (a : Wires) (way : List Answer) (piece : Piece) (queue : List Piece) (named : Bool) →
+    linked ≡ true → Printed issued a.ran a.dropped last (piece ∷ queue) a.log → Phase issued s linked (record a { queue = piece ∷ queue }) way →
+    Replies s linked a.dropped a.log way →
+    IsAfterStep issued s linked (record a { ran = true; queue = queue; log = a.log ++ piece ∷ [] }) (way ++ answer_to piece named ∷ [])
+run_open issued s linked last a way piece queue named on printed (shut closed none idle) r = absurd (cc)
+run_open issued s linked last a way (command place text) queue named on (before b) (early opened unready e) r = absurd (b.greetings.0)
+run_open issued s linked last a way greeting queue named on (before b) (early opened unready e) r = record {
+  phase = early opened unready (run_early s a.ran a.dropped queue a.up way named b.unran b.kept e);
   replies = record {
     fair = r.fair;
     acked_run = omega (arith, r.acked_run, run_grows a.log greeting);
     reads = λ running _ (ready : s.ready ≡ true). absurd (cc);
   };
 }
-run_open issued s linked last a piece queue named on (after p) (early opened unready e) r =
-    absurd (omega (arith, e.one, e.run_ok p.has_run, greetings_le a.way))
-run_open issued s linked last a piece queue named on (before b) (late opened ready ran ups) r = let unran : a.ran ≡ false = b.unran in absurd (cc)
-run_open issued s linked last a greeting queue named on (after p) (late opened ready ran ups) r = absurd (lines_at issued 1 p.lines greeting queue p.accepted)
-run_open issued s linked last a (command place text) queue named on (after p) (late opened ready ran ups) r =
+run_open issued s linked last a way piece queue named on (after p) (early opened unready e) r =
+    absurd (omega (arith, e.one, e.run_ok p.has_run, greetings_le way))
+run_open issued s linked last a way piece queue named on (before b) (late opened ready ran ups) r = let unran : a.ran ≡ false = b.unran in absurd (cc)
+run_open issued s linked last a way greeting queue named on (after p) (late opened ready ran ups) r = absurd (lines_at issued 1 p.lines greeting queue p.accepted)
+run_open issued s linked last a way (command place text) queue named on (after p) (late opened ready ran ups) r =
     let at : IsLineAt issued (1 + length p.lines) (command place text) = lines_at issued 1 p.lines (command place text) queue p.accepted in
     let counts = run_counts a.log p.lines (command place text) p.logged in
     let log : List Piece = a.log ++ command place text ∷ [] in
@@ -188,20 +188,20 @@ run_open issued s linked last a (command place text) queue named on (after p) (l
         fair = r.fair;
         acked_run = omega (arith, r.acked_run, run_grows a.log (command place text));
         reads = λ running _ _. (let read = r.reads running opened ready in record {
-          swallows = read.swallows ∙ sym (closing_push a.way (command_ok place named) refl);
-          answers = answers_push true a.dropped a.dropped s.issued s.acked (lines_run a.log) (lines_run log) a.way (command_ok place named) (run_grows a.log (command place text))
+          swallows = read.swallows ∙ sym (closing_push way (command_ok place named) refl);
+          answers = answers_push true a.dropped a.dropped s.issued s.acked (lines_run a.log) (lines_run log) way (command_ok place named) (run_grows a.log (command place text))
               (λ g m kept same. (omega (arith, at.0, same, counts.0), (kept, omega (arith, same, counts.0, counts.1)))) read.answers;
         });
       };
     }
 
 -- over a closed link nothing is said
-pub run_shut : (issued : List (List ℕ)) (s : SenderData) (linked : Bool) (a : Wires) (piece : Piece) (queue : List Piece) → linked ≡ false →
-    Phase issued s linked (record a { queue = piece ∷ queue }) → Replies s linked a.dropped a.log a.way →
-    IsAfterStep issued s linked (record a { ran = true; queue = queue; log = a.log ++ piece ∷ [] })
-run_shut issued s linked a piece queue off (early opened unready e) r = absurd (cc)
-run_shut issued s linked a piece queue off (late opened ready ran ups) r = absurd (cc)
-run_shut issued s linked a piece queue off (shut closed none idle) r = record {
+pub run_shut : (issued : List (List ℕ)) (s : SenderData) (linked : Bool) (a : Wires) (way : List Answer) (piece : Piece) (queue : List Piece) → linked ≡ false →
+    Phase issued s linked (record a { queue = piece ∷ queue }) way → Replies s linked a.dropped a.log way →
+    IsAfterStep issued s linked (record a { ran = true; queue = queue; log = a.log ++ piece ∷ [] }) way
+run_shut issued s linked a way piece queue off (early opened unready e) r = absurd (cc)
+run_shut issued s linked a way piece queue off (late opened ready ran ups) r = absurd (cc)
+run_shut issued s linked a way piece queue off (shut closed none idle) r = record {
   phase = shut closed none idle;
   replies = record {
     fair = r.fair;

@@ -1,5 +1,5 @@
 -- What a session's end says of its numbers is so.
-use Rattle.std.proofs.Common.{◌≡◌, ◌⊎◌, inl, inr, ℕ, ◌≤◌, true, List, Option, None, Some, refl, sym, ◌∙◌, subst, arith}
+use Rattle.std.proofs.Common.{◌≡◌, ◌⊎◌, inl, inr, ℕ, ◌≤◌, Bool, true, false, List, Option, None, Some, refl, sym, ◌∙◌, subst, arith}
 use Rattle.std.proofs.lemmas.Grind.{common_steps}
 use Rattle.marlin_reply.specs.Kind.{kind_of}
 use Rattle.marlin_reply.specs.declared.reply.Reply.{Reply}
@@ -10,6 +10,7 @@ use Rattle.send_window.specs.Data.{SenderData, IsSound, most_lines}
 use Rattle.send_window.specs.Hearing.{hear_step, tick_step}
 use Rattle.send_window.specs.declared.session_end.SessionEnd.{SessionEnd}
 use Rattle.send_window.specs.declared.session_end.SessionEnd.TheVariants.{NoAnswer, AskedBack, AskedAhead, Counts, Restarted, LostOk, NumbersUsed}
+use Rattle.send_window.specs.Laws.{IsLast}
 use Rattle.send_window.proofs.Ending.{ends_by_rule}
 use Rattle.octo_session.specs.Data.{SessionData, IsSession, doing}
 use Rattle.octo_session.specs.Found.{Got, unasked, lost, nothing, whole, end_by, can_find}
@@ -62,9 +63,12 @@ module _ (moment : ℕ) where
       → (all ≡ most_lines) × ((hear_step line moment s).acked ≡ most_lines)
   last_heard all line s running sound heard =
       let rule = ((ends_by_rule (NumbersUsed all) s moment running).0 line).0 heard in
-      let last = rule.0 in
-      (omega (arith, rule.1, last.awaited, last.last, sound.few), acked_at line refl)
+      (omega (arith, rule.1, issued_all s.numbered rule.0), acked_at line refl)
     where
+      issued_all : (numbered : Bool) → IsLast numbered line s → s.issued ≡ most_lines
+      issued_all false last = omega (arith, last.awaited, last.last, sound.few)
+      issued_all true last = omega (arith, last.issued, sound.few)
+
       acked_at : (l : Reply) → line ≡ l → (hear_step line moment s).acked ≡ most_lines
       acked_at l is = grind (arith, common_steps)
 

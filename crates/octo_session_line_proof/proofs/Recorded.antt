@@ -121,20 +121,20 @@ module _ (moment : ℕ) (kind : LinkKind) (old_past new_past : Option (List Worl
   turn_former_tied t k opens_now issued linked now is =
       let by = turned_by t k now is in
       let found : fact_of turned.note ≡ t.found = noted_fact turned.note moment old.sender.acked new.sender.acked t.lines t.got t.found t.none t.some in
-      let P : List WorldEvent → Type 0 = λ es. WasUnopened kind old_past issued old ⊎ IsTied kind issued old.sender.acked es (opens es - 1) in
+      let P : List WorldEvent → Type 0 = λ es. WasUnopened kind old_past issued old ⊎ IsTied old.sender.numbered kind issued old.sender.acked es (opens es - 1) in
       subst P (sym by.3) (former_or by.0 by.1 by.2 (turn_former moment kind old new t.got t.found (texts_in t.lines) issued by.0 by.1 (sym found ∙ opens_now) by.4 (linked by.0 by.2)))
     where
       former_or : (past added : List WorldEvent) → old_past ≡ Some past →
-          IsUnopened kind issued old past ⊎ IsTied kind issued old.sender.acked (past ++ added) (opens (past ++ added) - 1) →
-          WasUnopened kind old_past issued old ⊎ IsTied kind issued old.sender.acked (past ++ added) (opens (past ++ added) - 1)
+          IsUnopened kind issued old past ⊎ IsTied old.sender.numbered kind issued old.sender.acked (past ++ added) (opens (past ++ added) - 1) →
+          WasUnopened kind old_past issued old ⊎ IsTied old.sender.numbered kind issued old.sender.acked (past ++ added) (opens (past ++ added) - 1)
       former_or past added e (inl u) = inl (record { past = past; is = e; unopened = u })
       former_or past added e (inr tied) = inr tied
 
   pub turn_end_caused : IsTurn moment kind old_past new_past old_calls new_calls old new turned → IsKept moment old new turned →
       (end : SessionEnd) → fact_of turned.note ≡ fact.Ended end → (issued : List (List ℕ)) → LinkedAs kind old_past issued old →
-      EndCausedAs kind new_past end
+      EndCausedAs old.sender.numbered kind new_past end
   turn_end_caused t k end ends issued linked now is =
       let by = turned_by t k now is in
       let found : fact_of turned.note ≡ t.found = noted_fact turned.note moment old.sender.acked new.sender.acked t.lines t.got t.found t.none t.some in
-      let P : List WorldEvent → Type 0 = λ es. IsEndCaused kind end es in
+      let P : List WorldEvent → Type 0 = λ es. IsEndCaused old.sender.numbered kind end es in
       subst P (sym by.3) (turn_caused moment kind old new t.got t.found (texts_in t.lines) issued by.0 by.1 end (sym found ∙ ends) by.4 (linked by.0 by.2))

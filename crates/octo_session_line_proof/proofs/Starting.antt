@@ -5,7 +5,7 @@ use Rattle.std.specs.List.{list_any, list_all}
 use Rattle.std.proofs.lemmas.Bool.{or_left, or_right, cond_both, and_parts}
 use Rattle.std.proofs.lemmas.List.Folds.{list_any-append}
 use Rattle.marlin_reply.specs.Kind.{is_chatter}
-use Rattle.printer_model.specs.Printer.{Entry, Logged, PrinterData, is_full, take_judged, take_line, judged}
+use Rattle.printer_model.specs.Printer.{Entry, PrinterData, is_full, take_judged, take_line, judged}
 use Rattle.printer_model.specs.Replies.{error_line, resend_line, ok_line, run_reply, taken_replies}
 use Rattle.printer_model.specs.World.{WorldData, is_empty, is_free, can_happen, apply, world_from, arrive_front, down_with_reply, is_restart}
 use Rattle.printer_model.specs.declared.event.WorldEvent.{WorldEvent}
@@ -15,11 +15,11 @@ use Rattle.printer_model.specs.declared.printer.Taken.TheVariants.{Full}
 use Rattle.printer_model.proofs.Laws.{after_event, stays, run_queue_of}
 use Rattle.send_window.specs.Data.{SenderData}
 use Rattle.octo_session_line_proof.specs.Pieces.{Piece, Each, heard_in, talk_heard, ok_heard, named_by, entry_in, front_in, text_in}
-use Rattle.octo_session_line_proof.specs.Wires.{Wires, Shows, Numbers, Meets}
+use Rattle.octo_session_line_proof.specs.Wires.{Start, Wires, Shows, Numbers, Meets}
 use Rattle.octo_session_line_proof.specs.Traces.{IsStartKnown}
 use Rattle.octo_session_line_proof.proofs.Lists.{each_remove, each_push, each_so}
 use Rattle.octo_session_line_proof.proofs.Reading.{heard_error, heard_resend, heard_ok, heard_chatter, run_heard, IsRunReply}
-use Rattle.octo_session_line_proof.proofs.Free.{free_meets, front_small}
+use Rattle.octo_session_line_proof.proofs.Free.{free_meets, front_small, Allows, allows_rest}
 
 -- more events keep what is known
 known_more : (events more : List WorldEvent) (line : List ℕ) → IsStartKnown events line → IsStartKnown (events ++ more) line
@@ -62,7 +62,7 @@ arrived_starts : (events : List WorldEvent) (w : WorldData) (up : List (List ℕ
 arrived_starts events w [] all = all
 arrived_starts events w (line ∷ behind) all = each_append (IsStartKnown events) w.down (taken_replies (take_line w.printer line).0) all (taken_starts events w.printer line)
 
-module _ (start : List Logged) (issued : List (List ℕ)) (s : SenderData) (events : List WorldEvent) where
+module _ (start : Start) (issued : List (List ℕ)) (s : SenderData) (events : List WorldEvent) where
   replied_starts : (w : WorldData) (reply : List ℕ) (on : Bool) → w.linked ≡ on → IsStartKnown events reply → Each (IsStartKnown events) w.down →
       Each (IsStartKnown events) (down_with_reply w reply)
   replied_starts w reply true on known all =
@@ -73,7 +73,7 @@ module _ (start : List Logged) (issued : List (List ℕ)) (s : SenderData) (even
       subst E (sym (ap (λ (b : Bool). if b then w.down ++ reply ∷ [] else w.down) off)) all
 
   run_starts : (w : WorldData) (a : Wires) (queue : List Piece) → Shows start (record a { queue = queue }) w →
-      Numbers issued s w.linked w.printer.last (record a { queue = queue }) → Each (IsStartKnown events) w.down → Each (IsStartKnown events) (apply w Run).down
+      Numbers issued s w.printer.last (record a { queue = queue }) → Each (IsStartKnown events) w.down → Each (IsStartKnown events) (apply w Run).down
   run_starts w a [] sh n all =
       let E : WorldData → Type 0 = λ v. Each (IsStartKnown events) v.down in
       let cannot : can_happen w Run ≡ false = ap (λ (q : List Entry). not (is_empty q)) sh.queue in
@@ -114,14 +114,14 @@ module _ (start : List Logged) (issued : List (List ℕ)) (s : SenderData) (even
   event_starts w Closed free m all = absurd (cc)
 
 -- several of them
-pub free_starts : (start : List Logged) (issued : List (List ℕ)) (s : SenderData) (w : WorldData) (events more : List WorldEvent) →
-    list_all is_free more ≡ true → Meets start issued s w → Each (IsStartKnown events) w.down → Each (IsStartKnown (events ++ more)) (world_from w more).down
-free_starts start issued s w events [] free m all =
+pub free_starts : (start : Start) (issued : List (List ℕ)) (s : SenderData) (w : WorldData) (events more : List WorldEvent) →
+    list_all is_free more ≡ true → Allows start more → Meets start issued s w → Each (IsStartKnown events) w.down → Each (IsStartKnown (events ++ more)) (world_from w more).down
+free_starts start issued s w events [] free allows m all =
     let E : List WorldEvent → Type 0 = λ es. Each (IsStartKnown es) w.down in
     subst E (sym (append-nil events)) all
-free_starts start issued s w events (event ∷ more) free m all =
+free_starts start issued s w events (event ∷ more) free allows m all =
     let first : is_free event ≡ true = (and_parts (is_free event) (list_all is_free more) free).0 in
     let E : List WorldEvent → Type 0 = λ es. Each (IsStartKnown es) (world_from (apply w event) more).down in
     subst E (append_assoc events (event ∷ []) more)
-    (free_starts start issued s (apply w event) (events ++ event ∷ []) more (and_parts (is_free event) (list_all is_free more) free).1
-    (free_meets start issued s w event first m) (event_starts start issued s events w event first m all))
+    (free_starts start issued s (apply w event) (events ++ event ∷ []) more (and_parts (is_free event) (list_all is_free more) free).1 (allows_rest start event more allows)
+    (free_meets start issued s w event first (λ is. allows (or_left (is_restart event) (list_any is_restart more) is)) m) (event_starts start issued s events w event first m all))

@@ -4,8 +4,7 @@ use Rattle.std.specs.Prelude.{None}
 use Rattle.marlin_reply.specs.declared.reply.Reply.{Reply}
 use Rattle.job_desk.specs.declared.link_fact.LinkFact.{LinkFact}
 use Rattle.job_desk.specs.declared.link_fact.LinkFact.TheVariants as fact
-use Rattle.printer_model.specs.Printer.{Logged}
-use Rattle.printer_model.specs.World.{new_world, WorldData, can_happen, apply, world_from}
+use Rattle.printer_model.specs.World.{new_world, WorldData, can_happen, is_restart, apply, world_from}
 use Rattle.printer_model.specs.Exchanged.{sends_since, replies_from}
 use Rattle.printer_model.specs.declared.event.WorldEvent.{WorldEvent}
 use Rattle.printer_model.specs.declared.event.WorldEvent.TheVariants.{Opened}
@@ -20,28 +19,38 @@ use Rattle.octo_session.specs.Found.{Got, unasked, may_issue, can_find, up_after
 use Rattle.octo_session.specs.declared.found.Doing.{Doing}
 use Rattle.octo_session.specs.declared.found.Doing.TheVariants.{Dialling, HangingUp, UsingLink, Resting}
 use Rattle.octo_session.specs.Steps.{opens, after_steps, AreAllowed, AreAdded, dial_steps, steps_over_link, turn_steps}
-use Rattle.octo_session_line_proof.specs.Wires.{Meets}
-use Rattle.octo_session_line_proof.specs.Traces.{IsTallied, IsStartKnown, IsTraced}
+use Rattle.std.specs.List.{list_any}
+use Rattle.std.proofs.lemmas.Bool.{or_left, or_right}
+use Rattle.std.proofs.lemmas.List.Folds.{list_any-append}
+use Rattle.octo_session_line_proof.proofs.Free.{widen_meets}
+use Rattle.octo_session_line_proof.specs.Wires.{Start, Meets}
+use Rattle.octo_session_line_proof.specs.Traces.{HasCounted, IsTallied, IsStartKnown, IsTraced}
 use Rattle.octo_session_line_proof.specs.Pieces.{Each}
 use Rattle.octo_session_line_proof.proofs.Sending.{opened_meets}
 use Rattle.octo_session_line_proof.proofs.Tracing.{Leads, fits_append, replies_from-append}
 use Rattle.octo_session_line_proof.specs.Issuing.{issued_after, issued_in}
-use Rattle.octo_session_line_proof.specs.Linked.{IsUnopened, IsOpened, IsLinked, unopened, opened}
+use Rattle.octo_session_line_proof.specs.Linked.{start_of, IsUnopened, IsOpened, IsLinked, unopened, opened}
 use Rattle.octo_session.specs.Causes.{IsCaused}
 use Rattle.printer_link.specs.Suits.{Suits}
 use Rattle.printer_model.specs.declared.oks.Oks.{Oks}
 use Rattle.octo_session_line_proof.proofs.Causes.{talk_caused}
+use Rattle.octo_session_line_proof.proofs.Unchanged.{steps_kind}
 use Rattle.octo_session_line_proof.proofs.Ends.{IsStill, still_caused, idle_turn, still_idle}
 use Rattle.octo_session_line_proof.proofs.Speech.{turn_leads, issued_turn}
 use Rattle.octo_session_line_proof.proofs.Quiet.{StaysUp, talk_quiet}
 use Rattle.octo_session_line_proof.proofs.Turned.{IsTurned, talks_up, dials_down, rests_down, linked_after, opens_dialling, world_since, sound_of, linked_as, world_then, idle_steps, down_after}
 
-suits_of : (kind : LinkKind) (issued : List (List ℕ)) (x : SessionData) (past : List WorldEvent) → IsLinked kind issued x past → Suits false kind.oks
+suits_of : (kind : LinkKind) (issued : List (List ℕ)) (x : SessionData) (past : List WorldEvent) → IsLinked kind issued x past → Suits x.sender.numbered kind.oks
 suits_of kind issued x past (unopened u) = u.suits
 suits_of kind issued x past (opened o) = o.suits
 
+-- a session that begins has counted no reply
+none_counted : (s : SenderData) (numbered : Bool) → HasCounted numbered [] (sender_after_dial s)
+none_counted s false = record { pending = refl; counted = refl }
+none_counted s true = record { greeted = refl; named = refl }
+
 -- a link is made
-opened_by : (kind : LinkKind) (old new : SessionData) (past added runs : List WorldEvent) (last : ℕ) → IsSound old.sender → Suits false kind.oks →
+opened_by : (kind : LinkKind) (old new : SessionData) (past added runs : List WorldEvent) (last : ℕ) → IsSound old.sender → Suits old.sender.numbered kind.oks →
     (world_in kind past).printer.slots ≤ 16 → added ≡ runs ++ Opened last ∷ [] →
     can_happen (world_from (world_in kind past) runs) (Opened last) ≡ true → new.sender ≡ sender_after_dial old.sender →
     (world_in kind (past ++ added)).linked ≡ new.up → IsOpened kind [] new (past ++ added)
@@ -53,29 +62,36 @@ opened_by kind old new past added runs last sound suits few is can sender open_a
     let can_here : can_happen (world_in kind front) (Opened last) ≡ true = subst Can (sym here) can in
     let few_there : (world_from (world_in kind past) runs).printer.slots ≤ 16 = omega (arith, few, (world_from-IsSameKind (world_in kind past) runs).slots) in
     let few_here : (world_in kind front).printer.slots ≤ 16 = subst Few (sym here) few_there in
-    let plain_here : (world_in kind front).printer.oks.lost ≡ false =
-    ap (λ (oks : Oks). oks.lost) (world_from-IsSameKind (new_world kind.slots kind.oks) front).oks ∙ suits in
-    let M : WorldData → Type 0 = λ w. Meets (world_in kind front).log [] (sender_after_dial old.sender) w in
-    let met : Meets (world_in kind front).log [] (sender_after_dial old.sender) (apply (world_in kind front) (Opened last)) =
-    subst M (sym (happens (world_in kind front) (Opened last) can_here)) (opened_meets old.sender (world_in kind front) last sound few_here plain_here can_here)
+    let O : Oks → Type 0 = λ oks. Suits old.sender.numbered oks in
+    let suits_here : Suits old.sender.numbered (world_in kind front).printer.oks = subst O (sym (world_from-IsSameKind (new_world kind.slots kind.oks) front).oks) suits in
+    let M : WorldData → Type 0 = λ w. Meets (start_of kind front old.sender.numbered []) [] (sender_after_dial old.sender) w in
+    let met : Meets (start_of kind front old.sender.numbered []) [] (sender_after_dial old.sender) (apply (world_in kind front) (Opened last)) =
+    subst M (sym (happens (world_in kind front) (Opened last) can_here)) (opened_meets old.sender (world_in kind front) last sound few_here suits_here can_here)
     in
     let D : WorldData → Type 0 = λ w. Each (IsStartKnown []) w.down in
     let none_down : Each (IsStartKnown []) (apply (world_in kind front) (Opened last)).down = subst D (sym (happens (world_in kind front) (Opened last) can_here)) tt in
-    let S : SenderData → Type 0 = λ s. IsTraced (world_in kind front).log (apply (world_in kind front) (Opened last)) [] s [] in
+    let S : SenderData → Type 0 = λ s. IsTraced (start_of kind front s.numbered []) (apply (world_in kind front) (Opened last)) [] s [] in
     let Q : SenderData → Type 0 = λ s. IsQuiet 0 s in
-    let C : SenderData → Type 0 = λ s. IsCaused s.ended (apply (world_in kind front) (Opened last)) [] in
+    let C : SenderData → Type 0 = λ s. IsCaused s.numbered s.ended (apply (world_in kind front) (Opened last)) [] in
+    let K : SenderData → Type 0 = λ s. Suits s.numbered kind.oks in
     record {
       front = front;
       last = last;
       rest = [];
       is = ap (λ (es : List WorldEvent). past ++ es) is ∙ sym (append_assoc past runs (Opened last ∷ []));
       can = can_here;
-      traced = subst S (sym sender) (record { same_session = refl; meets = met; tallied = record { pending = refl; counted = refl; asked = λ (a : false ≡ true). absurd (cc) }; sends = tt; starts = none_down });
+      traced = subst S (sym sender) (record { same_session = refl; meets = met; tallied = record { counts = none_counted old.sender old.sender.numbered; asked = λ (a : false ≡ true). absurd (cc) }; sends = tt; starts = none_down });
       open_as = open_as;
       quiet = λ up. subst Q (sym sender) (record { sent_enough = λ _ _ _. omega arith });
       caused = subst C (sym sender) tt;
-      suits = suits;
+      suits = subst K (sym sender) suits;
     }
+
+-- no turn changes by what an `ok` counts
+pub turn_kind : (moment : ℕ) (kind : LinkKind) (old new : SessionData) (got : Got) (found : LinkFact) (texts : List (List ℕ)) (w : WorldData) (added : List WorldEvent) →
+    IsTurned moment kind old new got found texts w added → new.sender.numbered ≡ old.sender.numbered
+turn_kind moment kind old new got found texts w added t =
+    ap (λ (s : SenderData). s.numbered) t.sender ∙ steps_kind moment (turn_steps (doing old) old.up got found texts t.count) old.sender
 
 -- whether a turn makes a link
 pub is_opened_fact : (f : LinkFact) → (f ≡ fact.Opened) ⊎ (f ≡ fact.Opened → ⊥)
@@ -120,12 +136,13 @@ module _ (moment : ℕ) (kind : LinkKind) (old new : SessionData) (got : Got) (f
       let down : new.up ≡ false = t.up ∙ down_after (doing old) found old.up t.can idle other u.down in
       let same : new.sender ≡ old.sender = t.sender ∙ idle_steps moment (doing old) old.up got found texts t.count old.sender idle other in
       let S : SenderData → Type 0 = λ s. IsSound s in
+      let K : SenderData → Type 0 = λ s. Suits s.numbered kind.oks in
       record {
         none_issued = sym (issued_turn (doing old) old.up got found texts t.count issued other t.none_issued (λ i. un)) ∙ issued_idle (doing old) old.up got found texts t.count idle other ∙ u.none_issued;
         down = down;
         closed = ap (λ (w : WorldData). w.linked) (world_then kind past added) ∙ linked_after moment kind old new got found texts (world_in kind past) added t (u.closed ∙ sym u.down) ∙ down;
         sound = subst S (sym same) u.sound;
-        suits = u.suits;
+        suits = subst K (sym same) u.suits;
       }
     where
       issued_idle : (d : Doing) (was_up : Bool) (g : Got) (f : LinkFact) (ts : List (List ℕ)) (count : ℕ) → (d ≡ UsingLink → ⊥) →
@@ -145,7 +162,11 @@ module _ (moment : ℕ) (kind : LinkKind) (old new : SessionData) (got : Got) (f
   pub going_on : (found ≡ fact.Opened → ⊥) → IsTurned moment kind old new got found texts (world_in kind past) added →
       IsOpened kind issued old past → IsOpened kind (issued_in found texts issued) new (past ++ added)
   going_on other t o =
-      let start : List Logged = (world_in kind o.front).log in
+      let start : Start = start_of kind o.front old.sender.numbered (o.rest ++ added) in
+      let older : list_any is_restart o.rest ≡ true → list_any is_restart (o.rest ++ added) ≡ true =
+      λ r. list_any-append is_restart o.rest added ∙ or_left (list_any is_restart o.rest) (list_any is_restart added) r in
+      let newer : list_any is_restart added ≡ true → list_any is_restart (o.rest ++ added) ≡ true =
+      λ r. list_any-append is_restart o.rest added ∙ or_right (list_any is_restart o.rest) (list_any is_restart added) r in
       let base : WorldData = apply (world_in kind o.front) (Opened o.last) in
       let here : world_in kind past ≡ world_from base o.rest = world_since kind past o.front o.last o.rest o.is in
       let steps = turn_steps (doing old) old.up got found texts t.count in
@@ -154,7 +175,8 @@ module _ (moment : ℕ) (kind : LinkKind) (old new : SessionData) (got : Got) (f
       let replies : List Reply = replies_from base o.rest in
       let more : List (List ℕ) = issued_after steps issued in
       let led : Leads start issued more (after_steps moment steps old.sender) (world_from base o.rest) replies added =
-      turn_leads start moment kind.prompt issued old.sender (world_from base o.rest) replies added (doing old) old.up got found texts t.count other running t.allowed (subst W here t.steps) o.traced.meets o.traced.tallied
+      turn_leads start moment kind.prompt issued old.sender (world_from base o.rest) replies added (doing old) old.up got found texts t.count other running t.allowed (subst W here t.steps) newer
+      (widen_meets (start_of kind o.front old.sender.numbered o.rest) (list_any is_restart (o.rest ++ added)) issued old.sender (world_from base o.rest) older o.traced.meets) o.traced.tallied
       in
       let same : more ≡ issued_in found texts issued = issued_turn (doing old) old.up got found texts t.count issued other t.none_issued t.asked.1 in
       let rest : List WorldEvent = o.rest ++ added in
@@ -162,38 +184,40 @@ module _ (moment : ℕ) (kind : LinkKind) (old new : SessionData) (got : Got) (f
       let E : WorldData → Type 0 = λ w. Each (IsStartKnown rest) w.down in
       let R : List Reply → Type 0 = λ l. IsTallied l (after_steps moment steps old.sender) in
       let I : List (List ℕ) → Type 0 = λ l. IsTraced start base l (after_steps moment steps old.sender) rest in
-      let S : SenderData → Type 0 = λ s. IsTraced start base (issued_in found texts issued) s rest in
+      let S : SenderData → Type 0 = λ s. IsTraced (start_of kind o.front s.numbered rest) base (issued_in found texts issued) s rest in
+      let B : Bool → Type 0 = λ b. IsTraced (start_of kind o.front b rest) base (issued_in found texts issued) (after_steps moment steps old.sender) rest in
+      let K : Bool → Type 0 = λ b. Suits b kind.oks in
       record {
         front = o.front;
         last = o.last;
         rest = rest;
         is = ap (λ (es : List WorldEvent). es ++ added) o.is ∙ append_assoc o.front (Opened o.last ∷ o.rest) added;
         can = o.can;
-        traced = subst S (sym t.sender) (subst I same (record {
+        traced = subst S (sym t.sender) (subst B (sym led.meets.begun.kind) (subst I same (record {
           same_session = omega (arith, opens-append o.rest added, o.traced.same_session, led.same_session);
           meets = subst M (sym (world_from-append base o.rest added)) led.meets;
           tallied = subst R (sym (replies_from-append base o.rest added)) led.tallied;
-          sends = fits_append issued more [] base o.rest added led.extends o.traced.sends led.sends;
+          sends = fits_append start.numbered issued more [] base o.rest added led.extends o.traced.sends led.sends;
           starts = subst E (sym (world_from-append base o.rest added)) (led.starts o.rest o.traced.starts);
-        }));
+        })));
         open_as = ap (λ (w : WorldData). w.linked) (world_then kind past added) ∙ linked_after moment kind old new got found texts (world_in kind past) added t o.open_as;
         quiet = λ up. still_quiet up t o;
         caused = caused_by (doing old) refl t o;
-        suits = o.suits;
+        suits = subst K (sym (turn_kind moment kind old new got found texts (world_in kind past) added t)) o.suits;
       }
     where
       caused_idle : (doing old ≡ UsingLink → ⊥) → (t : IsTurned moment kind old new got found texts (world_in kind past) added) →
           (o : IsOpened kind issued old past) →
-          IsCaused new.sender.ended (apply (world_in kind o.front) (Opened o.last)) (o.rest ++ added)
+          IsCaused new.sender.numbered new.sender.ended (apply (world_in kind o.front) (Opened o.last)) (o.rest ++ added)
       caused_idle idle t o =
           let made : WorldData = apply (world_in kind o.front) (Opened o.last) in
           let here : world_in kind past ≡ world_from made o.rest = world_since kind past o.front o.last o.rest o.is in
           let S : WorldData → Type 0 = λ w. IsStill w added in
-          let C : SenderData → Type 0 = λ s. IsCaused s.ended made (o.rest ++ added) in
+          let C : SenderData → Type 0 = λ s. IsCaused s.numbered s.ended made (o.rest ++ added) in
           let same : new.sender ≡ old.sender = t.sender ∙ idle_steps moment (doing old) old.up got found texts t.count old.sender idle other in
           let free = idle_turn moment kind.prompt (doing old) old.up got found texts t.count old.sender (world_in kind past) added idle other t.steps in
           let still : IsStill (world_in kind past) added = still_idle (world_in kind past) added free in
-          subst C (sym same) (still_caused old.sender.ended made o.rest added (subst S here still) o.caused)
+          subst C (sym same) (still_caused old.sender.numbered old.sender.ended made o.rest added (subst S here still) o.caused)
 
       stays : (f : LinkFact) (was_up : Bool) → (f ≡ fact.Opened → ⊥) → up_after f was_up ≡ true → StaysUp f
       stays fact.Quiet was_up o up = tt
@@ -232,19 +256,20 @@ module _ (moment : ℕ) (kind : LinkKind) (old new : SessionData) (got : Got) (f
 
       caused_by : (d : Doing) → doing old ≡ d → (t : IsTurned moment kind old new got found texts (world_in kind past) added) →
           (o : IsOpened kind issued old past) →
-          IsCaused new.sender.ended (apply (world_in kind o.front) (Opened o.last)) (o.rest ++ added)
+          IsCaused new.sender.numbered new.sender.ended (apply (world_in kind o.front) (Opened o.last)) (o.rest ++ added)
       caused_by UsingLink is t o =
           let made : WorldData = apply (world_in kind o.front) (Opened o.last) in
           let here : world_in kind past ≡ world_from made o.rest = world_since kind past o.front o.last o.rest o.is in
           let F : Doing → Type 0 = λ d. can_find d found ≡ true in
           let B : Doing → Type 0 = λ d. AreAdded moment kind.prompt (turn_steps d old.up got found texts t.count) old.sender (world_in kind past) added in
           let W : WorldData → Type 0 = λ w. AreAdded moment kind.prompt (steps_over_link got found texts t.count) old.sender w added in
-          let C : SenderData → Type 0 = λ s. IsCaused s.ended made (o.rest ++ added) in
+          let C : SenderData → Type 0 = λ s. IsCaused s.numbered s.ended made (o.rest ++ added) in
           let sender : new.sender ≡ after_steps moment (steps_over_link got found texts t.count) old.sender =
           t.sender ∙ ap (λ (d : Doing). after_steps moment (turn_steps d old.up got found texts t.count) old.sender) is
           in
-          subst C (sym sender) (talk_caused moment kind.prompt found texts t.count (world_in kind o.front).log made issued old.sender o.rest got added (subst F is t.can) (λ un. (t.asked.0 un) is) t.ended
-          (t.joined.running (talks_up old is)) (o.quiet (talks_up old is)) o.traced (subst W here (subst B is t.steps)))
+          let K : Bool → Type 0 = λ b. IsCaused b (after_steps moment (steps_over_link got found texts t.count) old.sender).ended made (o.rest ++ added) in
+          subst C (sym sender) (subst K (sym (steps_kind moment (steps_over_link got found texts t.count) old.sender)) (talk_caused moment kind.prompt found texts t.count (start_of kind o.front old.sender.numbered o.rest) made issued old.sender o.rest got added (subst F is t.can) (λ un. (t.asked.0 un) is) t.ended
+          (t.joined.running (talks_up old is)) (o.quiet (talks_up old is)) (λ r. r) o.traced (subst W here (subst B is t.steps))))
       caused_by Dialling is t o = caused_idle (λ (i : doing old ≡ UsingLink). (let e : Dialling ≡ UsingLink = sym is ∙ i in absurd (cc))) t o
       caused_by HangingUp is t o = caused_idle (λ (i : doing old ≡ UsingLink). (let e : HangingUp ≡ UsingLink = sym is ∙ i in absurd (cc))) t o
       caused_by Resting is t o = caused_idle (λ (i : doing old ≡ UsingLink). (let e : Resting ≡ UsingLink = sym is ∙ i in absurd (cc))) t o

@@ -4,8 +4,7 @@ use Rattle.std.specs.Prelude.{Option, None, not, ◌&&◌}
 use Rattle.job_desk.specs.declared.link_fact.LinkFact.{LinkFact}
 use Rattle.job_desk.specs.declared.link_fact.LinkFact.TheVariants as fact
 use Rattle.marlin_reply.specs.declared.reply.Reply.{Reply}
-use Rattle.printer_model.specs.Printer.{Logged}
-use Rattle.printer_model.specs.World.{WorldData, apply, world_from}
+use Rattle.printer_model.specs.World.{WorldData, is_restart, apply, world_from}
 use Rattle.printer_model.specs.Executed.{opens}
 use Rattle.printer_model.specs.declared.event.WorldEvent.{WorldEvent}
 use Rattle.printer_model.specs.declared.event.WorldEvent.TheVariants.{Opened}
@@ -23,14 +22,18 @@ use Rattle.octo_session.specs.declared.found.Doing.{Doing}
 use Rattle.octo_session.specs.declared.found.Doing.TheVariants.{Dialling, HangingUp, UsingLink, Resting}
 use Rattle.octo_session.specs.declared.found.Turned.{Turned}
 use Rattle.octo_session_line_proof.specs.Pieces.{Each}
-use Rattle.octo_session_line_proof.specs.Wires.{Meets}
+use Rattle.std.specs.List.{list_any}
+use Rattle.std.proofs.lemmas.Bool.{or_left, or_right}
+use Rattle.std.proofs.lemmas.List.Folds.{list_any-append}
+use Rattle.octo_session_line_proof.proofs.Free.{widen_meets}
+use Rattle.octo_session_line_proof.specs.Wires.{Start, Meets}
 use Rattle.octo_session_line_proof.specs.Traces.{IsTallied, IsStartKnown, IsTraced}
 use Rattle.printer_model.specs.Exchanged.{replies_from}
 use Rattle.octo_session_line_proof.proofs.Tracing.{fits_append, replies_from-append}
 use Rattle.octo_session_line_proof.specs.History.{IsMade}
 use Rattle.octo_session.specs.Tied.{HasIssued, IsTied}
 use Rattle.octo_session_line_proof.specs.Issuing.{issued_in}
-use Rattle.octo_session_line_proof.specs.Linked.{IsOpened, IsLinked, unopened}
+use Rattle.octo_session_line_proof.specs.Linked.{start_of, IsOpened, IsLinked, unopened}
 use Rattle.octo_session_line_proof.proofs.Speech.{steps_lead, turn_leads}
 use Rattle.octo_session_line_proof.proofs.Recorded.{IsKept, turned_by}
 use Rattle.octo_session_line_proof.proofs.Turned.{IsTurned, talks_up, dials_down, opens_dialling, world_since}
@@ -63,7 +66,9 @@ module _ (moment : ℕ) (kind : LinkKind) (old new : SessionData) (got : Got) (f
       let here : world_in kind past ≡ world_from base o.rest = world_since kind past o.front o.last o.rest o.is in
       let W : WorldData → Type 0 = λ w. AreAdded moment kind.prompt (turn_steps (doing old) old.up got found texts t.count) old.sender w added in
       let running : doing old ≡ UsingLink → old.sender.ended ≡ None = λ talks. t.joined.running (talks_up old talks) in
-      (turn_leads (world_in kind o.front).log moment kind.prompt issued old.sender (world_from base o.rest) (replies_from base o.rest) added (doing old) old.up got found texts t.count other running t.allowed (subst W here t.steps) o.traced.meets o.traced.tallied).same_session
+      let start : Start = record { log = (world_in kind o.front).log; numbered = old.sender.numbered; restarted = true } in
+      (turn_leads start moment kind.prompt issued old.sender (world_from base o.rest) (replies_from base o.rest) added (doing old) old.up got found texts t.count other running t.allowed (subst W here t.steps) (λ _. refl)
+      (widen_meets (start_of kind o.front old.sender.numbered o.rest) true issued old.sender (world_from base o.rest) (λ _. refl) o.traced.meets) o.traced.tallied).same_session
 
   -- a turn over the link
   pub made_on : (issued : List (List ℕ)) (past added more : List WorldEvent) → (found ≡ fact.Opened → ⊥) →
@@ -100,7 +105,7 @@ module _ (moment : ℕ) (kind : LinkKind) (old new : SessionData) (got : Got) (f
       not_linked true other is = absurd (cc)
 
   -- the turn that makes the link
-  pub made_now : (past added : List WorldEvent) → found ≡ fact.Opened → IsSound old.sender → Suits false kind.oks → doing old ≡ Dialling →
+  pub made_now : (past added : List WorldEvent) → found ≡ fact.Opened → IsSound old.sender → Suits old.sender.numbered kind.oks → doing old ≡ Dialling →
       IsTurned moment kind old new got found texts (world_in kind past) added → IsMade kind [] new past added
   made_now past added is sound suits dials t =
       let dial = dial_of past added is t in
@@ -148,26 +153,31 @@ module _ (moment : ℕ) (kind : LinkKind) (old new : SessionData) (got : Got) (f
 
 -- what was made is what a print leaves
 pub made_printed : (kind : LinkKind) (issued : List (List ℕ)) (x : SessionData) (past added : List WorldEvent) →
-    IsMade kind issued x past added → HasIssued kind issued x.sender.acked past added
+    IsMade kind issued x past added → HasIssued x.sender.numbered kind issued x.sender.acked past added
 made_printed kind issued x past added made =
     let number : opens (past ++ added) ≡ suc (opens past) = omega (arith, opens-append past added, made.once) in
-    let N : ℕ → Type 0 = λ n. IsTied kind issued x.sender.acked (past ++ added) n in
+    let N : ℕ → Type 0 = λ n. IsTied x.sender.numbered kind issued x.sender.acked (past ++ added) n in
     record { once = omega (arith, made.once); tied = subst N number (opened_tied kind issued x (past ++ added) made.opened) }
 
 -- the link of a print is hung up
 pub hung_printed : (kind : LinkKind) (issued : List (List ℕ)) (x : SessionData) (past added more : List WorldEvent) →
     IsMade kind issued x past added → IsHangUp true (world_in kind (past ++ added)) more →
-    HasIssued kind issued x.sender.acked past (added ++ more)
+    HasIssued x.sender.numbered kind issued x.sender.acked past (added ++ more)
 hung_printed kind issued x past added more made hung =
     let o = made.opened in
-    let start : List Logged = (world_in kind o.front).log in
+    let start : Start = start_of kind o.front x.sender.numbered (o.rest ++ more) in
+    let older : list_any is_restart o.rest ≡ true → list_any is_restart (o.rest ++ more) ≡ true =
+    λ r. list_any-append is_restart o.rest more ∙ or_left (list_any is_restart o.rest) (list_any is_restart more) r in
+    let newer : list_any is_restart more ≡ true → list_any is_restart (o.rest ++ more) ≡ true =
+    λ r. list_any-append is_restart o.rest more ∙ or_right (list_any is_restart o.rest) (list_any is_restart more) r in
     let base : WorldData = apply (world_in kind o.front) (Opened o.last) in
     let w : WorldData = world_from base o.rest in
     let replies : List Reply = replies_from base o.rest in
     let here : world_in kind (past ++ added) ≡ w = world_since kind (past ++ added) o.front o.last o.rest o.is in
     let H : WorldData → Type 0 = λ v. IsHangUp true v more in
     let steps : AreAdded 0 false (hangs_up true ∷ []) x.sender w more = (more, [], sym (append-nil more), (subst H here hung, λ _. tt), refl) in
-    let led = steps_lead start 0 false (hangs_up true ∷ []) issued x.sender w replies more (tt, tt) (tt, tt) steps o.traced.meets o.traced.tallied in
+    let led = steps_lead start 0 false (hangs_up true ∷ []) issued x.sender w replies more (tt, tt) (tt, tt) steps newer
+    (widen_meets (start_of kind o.front x.sender.numbered o.rest) (list_any is_restart (o.rest ++ more)) issued x.sender w older o.traced.meets) o.traced.tallied in
     let rest : List WorldEvent = o.rest ++ more in
     let M : WorldData → Type 0 = λ v. Meets start issued x.sender v in
     let E : WorldData → Type 0 = λ v. Each (IsStartKnown rest) v.down in
@@ -176,19 +186,19 @@ hung_printed kind issued x past added more made hung =
       same_session = omega (arith, opens-append o.rest more, o.traced.same_session, led.same_session);
       meets = subst M (sym (world_from-append base o.rest more)) led.meets;
       tallied = subst R (sym (replies_from-append base o.rest more)) led.tallied;
-      sends = fits_append issued issued [] base o.rest more led.extends o.traced.sends led.sends;
+      sends = fits_append start.numbered issued issued [] base o.rest more led.extends o.traced.sends led.sends;
       starts = subst E (sym (world_from-append base o.rest more)) (led.starts o.rest o.traced.starts);
     }
     in
-    let tied : IsTied kind issued x.sender.acked (o.front ++ Opened o.last ∷ rest) (suc (opens o.front)) = tied_at kind issued x.sender o.front o.last rest traced in
+    let tied : IsTied x.sender.numbered kind issued x.sender.acked (o.front ++ Opened o.last ∷ rest) (suc (opens o.front)) = tied_at kind issued x.sender o.front o.last rest traced in
     let all : o.front ++ Opened o.last ∷ rest ≡ past ++ (added ++ more) =
     sym (append_assoc o.front (Opened o.last ∷ o.rest) more) ∙ ap (λ (es : List WorldEvent). es ++ more) (sym o.is) ∙ append_assoc past added more
     in
     let number : opens o.front ≡ opens past =
     omega (arith, opens-append past added, made.once, ap opens o.is, opens-append o.front (Opened o.last ∷ o.rest), o.traced.same_session)
     in
-    let P : List WorldEvent → Type 0 = λ es. IsTied kind issued x.sender.acked es (suc (opens o.front)) in
-    let N : ℕ → Type 0 = λ n. IsTied kind issued x.sender.acked (past ++ (added ++ more)) (suc n) in
+    let P : List WorldEvent → Type 0 = λ es. IsTied x.sender.numbered kind issued x.sender.acked es (suc (opens o.front)) in
+    let N : ℕ → Type 0 = λ n. IsTied x.sender.numbered kind issued x.sender.acked (past ++ (added ++ more)) (suc n) in
     record {
       once = omega (arith, opens-append added more, made.once, led.same_session);
       tied = subst N number (subst P all tied);

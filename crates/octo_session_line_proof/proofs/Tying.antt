@@ -1,5 +1,5 @@
 -- If session, issued texts and history are linked, they are tied.
-use Rattle.std.proofs.Common.{◌≡◌, ℕ, zero, suc, Bool, false, not, eqb, List, [], ◌∷◌, ◌++◌, length, map, take, drop, refl, sym, ◌∙◌, ap, subst, arith}
+use Rattle.std.proofs.Common.{◌≡◌, ℕ, zero, suc, ◌≤◌, Bool, false, not, eqb, List, [], ◌∷◌, ◌++◌, length, map, take, drop, refl, sym, ◌∙◌, ap, subst, arith}
 use Rattle.std.specs.Prelude.{Some, filter, slice_get, if◌then◌else◌}
 use Rattle.std.proofs.lemmas.Bool.{ne_eqb}
 use Rattle.marlin_frame.specs.Numbering.{hello_number, wire_number}
@@ -11,17 +11,18 @@ use Rattle.printer_model.specs.declared.event.WorldEvent.{WorldEvent}
 use Rattle.printer_model.specs.declared.event.WorldEvent.TheVariants.{Opened}
 use Rattle.printer_model.proofs.Sessions.{opens-append}
 use Rattle.printer_model.proofs.Starts.{till-stop, session_of-last, executed-from}
+use Rattle.printer_model.specs.declared.oks.Oks.{Oks}
 use Rattle.printer_link.specs.Link.{LinkKind, world_in}
-use Rattle.send_window.specs.Counting.{acked_of}
+use Rattle.send_window.specs.Counting.{acked_as}
 use Rattle.send_window.specs.Data.{SenderData}
 use Rattle.octo_session.specs.Data.{SessionData}
 use Rattle.octo_session_line_proof.specs.Pieces.{Piece, greeting, command, logged_in, AreLinesFrom}
-use Rattle.octo_session_line_proof.specs.Wires.{Printed, before, after, lines_run}
+use Rattle.octo_session_line_proof.specs.Wires.{Wires, Printed, before, after, lines_run, Reads, counting, naming}
 use Rattle.octo_session_line_proof.specs.Traces.{IsTraced}
 use Rattle.octo_session.specs.Sends.{AreSendsFit}
 use Rattle.octo_session_line_proof.proofs.Lists.{lines_front}
 use Rattle.octo_session_line_proof.proofs.Giving.{tally_acked}
-use Rattle.octo_session_line_proof.specs.Linked.{IsOpened}
+use Rattle.octo_session_line_proof.specs.Linked.{start_of, IsOpened}
 use Rattle.octo_session.specs.Tied.{world_before, IsTied}
 use Rattle.octo_session_line_proof.proofs.Turned.{world_since}
 
@@ -78,10 +79,16 @@ executed_by issued ran d last queue log (after p) =
       count = count;
     })
 
+-- the acknowledged lines have run
+reads_run : (issued : List (List ℕ)) (s : SenderData) (linked : Bool) (oks : Oks) (a : Wires) (down : List (List ℕ)) → Reads issued s linked oks a down →
+    s.acked ≤ lines_run a.log
+reads_run issued s linked oks a down (counting c) = c.replies.acked_run
+reads_run issued s linked oks a down (naming n) = n.replies.acked_run
+
 -- the last session is tied
 pub tied_at : (kind : LinkKind) (issued : List (List ℕ)) (s : SenderData) (front : List WorldEvent) (last : ℕ) (rest : List WorldEvent) →
-    IsTraced (world_in kind front).log (apply (world_in kind front) (Opened last)) issued s rest →
-    IsTied kind issued s.acked (front ++ Opened last ∷ rest) (suc (opens front))
+    IsTraced (start_of kind front s.numbered rest) (apply (world_in kind front) (Opened last)) issued s rest →
+    IsTied s.numbered kind issued s.acked (front ++ Opened last ∷ rest) (suc (opens front))
 tied_at kind issued s front last rest traced =
     let past : List WorldEvent = front ++ Opened last ∷ rest in
     let base : WorldData = apply (world_in kind front) (Opened last) in
@@ -99,23 +106,23 @@ tied_at kind issued s front last rest traced =
     let so : IsExecuted issued log (executed kind.slots kind.oks past (suc (opens front))) = subst E (sym ran) by in
     let world : world_before kind past (suc (opens front)) ≡ world_in kind front = ap (world_in kind) (till-stop front rest last) in
     let events : events_of_session (suc (opens front)) past ≡ Opened last ∷ rest = session_of-last front rest last traced.same_session in
-    let S : WorldData → Type 0 = λ w. AreSendsFit issued [] w (events_of_session (suc (opens front)) past) in
-    let V : List WorldEvent → Type 0 = λ es. AreSendsFit issued [] (world_in kind front) es in
+    let S : WorldData → Type 0 = λ w. AreSendsFit s.numbered issued [] w (events_of_session (suc (opens front)) past) in
+    let V : List WorldEvent → Type 0 = λ es. AreSendsFit s.numbered issued [] (world_in kind front) es in
     record {
       executed_first = so.is;
       acked_is = sym (
-          ap (λ (w : WorldData). acked_of (replies_from w (events_of_session (suc (opens front)) past))) world
-          ∙ ap (λ (es : List WorldEvent). acked_of (replies_from (world_in kind front) es)) events
-          ∙ tally_acked (replies_from base rest) s s.ready refl n.sound traced.tallied);
-      acked_run = omega (arith, so.count, n.replies.acked_run);
+          ap (λ (w : WorldData). acked_as s.numbered (replies_from w (events_of_session (suc (opens front)) past))) world
+          ∙ ap (λ (es : List WorldEvent). acked_as s.numbered (replies_from (world_in kind front) es)) events
+          ∙ tally_acked (replies_from base rest) s s.numbered refl n.sound traced.tallied);
+      acked_run = omega (arith, so.count, reads_run issued s (world_from base rest).linked (world_from base rest).printer.oks m.wires (world_from base rest).down m.reads);
       sends = subst S (sym world) (subst V (sym events) (tt, traced.sends));
     }
 
 -- once a turn has made a link, the last session is tied
 pub opened_tied : (kind : LinkKind) (issued : List (List ℕ)) (x : SessionData) (past : List WorldEvent) → IsOpened kind issued x past →
-    IsTied kind issued x.sender.acked past (opens past)
+    IsTied x.sender.numbered kind issued x.sender.acked past (opens past)
 opened_tied kind issued x past o =
     let number : suc (opens o.front) ≡ opens past = omega (arith, ap opens o.is, opens-append o.front (Opened o.last ∷ o.rest), o.traced.same_session) in
-    let P : List WorldEvent → Type 0 = λ es. IsTied kind issued x.sender.acked es (suc (opens o.front)) in
-    let N : ℕ → Type 0 = λ n. IsTied kind issued x.sender.acked past n in
+    let P : List WorldEvent → Type 0 = λ es. IsTied x.sender.numbered kind issued x.sender.acked es (suc (opens o.front)) in
+    let N : ℕ → Type 0 = λ n. IsTied x.sender.numbered kind issued x.sender.acked past n in
     subst N number (subst P (sym o.is) (tied_at kind issued x.sender o.front o.last o.rest o.traced))

@@ -1,8 +1,9 @@
 -- What holds between the turns of a session and the recorded history of its link.
-use Rattle.std.specs.Prelude.{◌≡◌, ◌⊎◌, ℕ, true, false, List, [], ◌∷◌, ◌++◌, Option, Some}
+use Rattle.std.specs.Prelude.{◌≡◌, ◌⊎◌, ℕ, Bool, true, false, List, [], ◌∷◌, ◌++◌, Option, Some}
 use Rattle.job_desk.specs.declared.link_fact.LinkFact.{LinkFact}
 use Rattle.job_desk.specs.declared.link_fact.LinkFact.TheVariants as fact
-use Rattle.printer_model.specs.World.{can_happen, apply}
+use Rattle.std.specs.List.{list_any}
+use Rattle.printer_model.specs.World.{is_restart, can_happen, apply}
 use Rattle.printer_model.specs.Exchanged.{sends_since}
 use Rattle.printer_model.specs.declared.event.WorldEvent.{WorldEvent}
 use Rattle.printer_model.specs.declared.event.WorldEvent.TheVariants.{Opened}
@@ -11,10 +12,15 @@ use Rattle.send_window.specs.Counting.{IsQuiet}
 use Rattle.send_window.specs.Data.{IsSound}
 use Rattle.octo_session.specs.Data.{SessionData}
 use Rattle.octo_session_line_proof.specs.Traces.{IsTraced}
+use Rattle.octo_session_line_proof.specs.Wires.{Start}
 use Rattle.octo_session.specs.Causes.{IsCaused}
 use Rattle.printer_link.specs.Suits.{Suits}
 use Rattle.octo_session.specs.Turn.{IsTurn, IsTurnByNote}
 use Rattle.octo_session.specs.declared.found.Turned.{Turned}
+
+-- how a session began after these events, which has had these others
+abbrev pub start_of : LinkKind → List WorldEvent → Bool → List WorldEvent → Start
+start_of kind front by_number rest = record { log = (world_in kind front).log; numbered = by_number; restarted = list_any is_restart rest }
 
 -- no turn of the session has made a link yet
 pub record IsUnopened (kind : LinkKind) (issued : List (List ℕ)) (x : SessionData) (past : List WorldEvent) : Type 0 where
@@ -22,7 +28,7 @@ pub record IsUnopened (kind : LinkKind) (issued : List (List ℕ)) (x : SessionD
   pub down : x.up ≡ false
   pub closed : (world_in kind past).linked ≡ false
   pub sound : IsSound x.sender
-  pub suits : Suits false kind.oks
+  pub suits : Suits x.sender.numbered kind.oks
 
 -- the last link of the history is the session's, and these are the texts of the lines issued since it was made
 pub record IsOpened (kind : LinkKind) (issued : List (List ℕ)) (x : SessionData) (past : List WorldEvent) : Type 0 where
@@ -33,14 +39,14 @@ pub record IsOpened (kind : LinkKind) (issued : List (List ℕ)) (x : SessionDat
   pub is : past ≡ front ++ Opened last ∷ rest
   pub can : can_happen (world_in kind front) (Opened last) ≡ true
   -- sender, wires and printer fit together
-  pub traced : IsTraced (world_in kind front).log (apply (world_in kind front) (Opened last)) issued x.sender rest
+  pub traced : IsTraced (start_of kind front x.sender.numbered rest) (apply (world_in kind front) (Opened last)) issued x.sender rest
   -- the link is open exactly if the session is up
   pub open_as : (world_in kind past).linked ≡ x.up
   -- while it is up, each limit that passed in silence brought a line
   pub quiet : x.up ≡ true → IsQuiet (sends_since 0 rest) x.sender
   -- the sender ended with a cause, if it ended
-  pub caused : IsCaused x.sender.ended (apply (world_in kind front) (Opened last)) rest
-  pub suits : Suits false kind.oks
+  pub caused : IsCaused x.sender.numbered x.sender.ended (apply (world_in kind front) (Opened last)) rest
+  pub suits : Suits x.sender.numbered kind.oks
 
 -- a session, the texts issued in its last link and a history fit together
 pub data IsLinked (kind : LinkKind) (issued : List (List ℕ)) (x : SessionData) (past : List WorldEvent) : Type 0 where

@@ -10,7 +10,7 @@ use Rattle.octo_session.specs.Tied.{IsTied}
 -- the last session of a recorded history is tied
 abbrev pub TiedAs : LinkKind → Option (List WorldEvent) → List (List ℕ) → SessionData → Type 0
 TiedAs kind recorded issued x =
-    (past : List WorldEvent) → recorded ≡ Some past → IsTied kind issued x.sender.acked past (opens past)
+    (past : List WorldEvent) → recorded ≡ Some past → IsTied x.sender.numbered kind issued x.sender.acked past (opens past)
 
 -- a session that no link was made for yet, by its recorded history
 pub record WasUnopened (kind : LinkKind) (recorded : Option (List WorldEvent)) (issued : List (List ℕ)) (x : SessionData) : Type 0 where
@@ -22,4 +22,4 @@ pub record WasUnopened (kind : LinkKind) (recorded : Option (List WorldEvent)) (
 abbrev pub FormerTiedAs : LinkKind → Option (List WorldEvent) → Option (List WorldEvent) → List (List ℕ) → SessionData → Type 0
 FormerTiedAs kind recorded later issued x =
     (past : List WorldEvent) → later ≡ Some past
-    → WasUnopened kind recorded issued x ⊎ IsTied kind issued x.sender.acked past (opens past - 1)
+    → WasUnopened kind recorded issued x ⊎ IsTied x.sender.numbered kind issued x.sender.acked past (opens past - 1)

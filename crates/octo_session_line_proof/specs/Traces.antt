@@ -3,14 +3,14 @@ use Rattle.std.specs.Prelude.{◌≡◌, ℕ, ◌+◌, Bool, true, false, List, 
 use Rattle.std.specs.List.{list_any}
 use Rattle.marlin_reply.specs.declared.reply.Reply.{Reply}
 use Rattle.marlin_reply.specs.declared.reply.Reply.TheVariants as reply
-use Rattle.printer_model.specs.Printer.{Logged}
 use Rattle.printer_model.specs.World.{WorldData, world_from, is_restart}
 use Rattle.printer_model.specs.Executed.{opens}
 use Rattle.printer_model.specs.declared.event.WorldEvent.{WorldEvent}
 use Rattle.send_window.specs.Data.{SenderData}
-use Rattle.send_window.specs.Counting.{own_oks, is_pending, is_resend}
+use Rattle.send_window.specs.Counting.{own_oks, is_pending, is_resend, is_greeting_ok, most_named}
+use Rattle.marlin_frame.specs.Numbering.{place_of}
 use Rattle.octo_session_line_proof.specs.Pieces.{Each, heard_in, start_heard}
-use Rattle.octo_session_line_proof.specs.Wires.{Meets}
+use Rattle.octo_session_line_proof.specs.Wires.{Start, Meets}
 use Rattle.printer_model.specs.Exchanged.{replies_from}
 use Rattle.octo_session.specs.Sends.{AreSendsFit}
 
@@ -19,10 +19,24 @@ abbrev pub oks_of : Bool → ℕ → ℕ
 oks_of false acked = 0
 oks_of true acked = acked + 1
 
--- a sender has counted the replies
-pub record IsTallied (replies : List Reply) (s : SenderData) : Type 0 where
+-- a sender has counted the `ok`s
+pub record CountsOks (replies : List Reply) (s : SenderData) : Type 0 where
   pub pending : s.swallow ≡ is_pending replies
   pub counted : oks_of s.ready s.acked ≡ own_oks reply.Start replies
+
+-- a sender has read the numbers of the `ok`s
+pub record NamesOks (replies : List Reply) (s : SenderData) : Type 0 where
+  pub greeted : s.ready ≡ list_any is_greeting_ok replies
+  pub named : s.acked ≡ place_of (most_named replies)
+
+-- one of the two, by what an `ok` counts
+abbrev pub HasCounted : Bool → List Reply → SenderData → Type 0
+HasCounted false replies s = CountsOks replies s
+HasCounted true replies s = NamesOks replies s
+
+-- a sender has counted the replies
+pub record IsTallied (replies : List Reply) (s : SenderData) : Type 0 where
+  pub counts : HasCounted s.numbered replies s
   pub asked : s.asked_anew ≡ true → list_any is_resend replies ≡ true
 
 -- a `start` comes only of a restart
@@ -30,9 +44,9 @@ abbrev pub IsStartKnown : List WorldEvent → List ℕ → Type 0
 IsStartKnown events line = heard_in line ≡ start_heard → list_any is_restart events ≡ true
 
 -- the sender of a session and the events since its link was made fit together
-pub record IsTraced (start : List Logged) (opened : WorldData) (issued : List (List ℕ)) (s : SenderData) (rest : List WorldEvent) : Type 0 where
+pub record IsTraced (start : Start) (opened : WorldData) (issued : List (List ℕ)) (s : SenderData) (rest : List WorldEvent) : Type 0 where
   pub same_session : opens rest ≡ 0
   pub meets : Meets start issued s (world_from opened rest)
   pub tallied : IsTallied (replies_from opened rest) s
-  pub sends : AreSendsFit issued [] opened rest
+  pub sends : AreSendsFit start.numbered issued [] opened rest
   pub starts : Each (IsStartKnown rest) (world_from opened rest).down

@@ -1,13 +1,14 @@
 -- What holds of a sender, its two wires and the printer through a session, whatever the line does.
-use Rattle.std.specs.Prelude.{◌≡◌, ℕ, suc, ◌+◌, ◌<◌, ◌≤◌, Bool, true, false, List, [], ◌∷◌, ◌++◌, length, map, Option, Some, None}
-use Rattle.marlin_frame.specs.Numbering.{wire_number}
+use Rattle.std.specs.Prelude.{◌≡◌, ◌⊎◌, ℕ, suc, ◌+◌, ◌<◌, ◌≤◌, max, Bool, true, false, List, [], ◌∷◌, ◌++◌, length, map, Option, Some, None}
+use Rattle.marlin_frame.specs.Numbering.{wire_number, place_of}
 use Rattle.send_window.specs.declared.session_end.SessionEnd.{SessionEnd}
 use Rattle.send_window.specs.declared.session_end.SessionEnd.TheVariants.{NoAnswer, AskedBack, AskedAhead, Counts, Restarted, LostOk, NumbersUsed}
 use Rattle.printer_model.specs.Printer.{Logged}
 use Rattle.printer_model.specs.World.{WorldData}
+use Rattle.printer_model.specs.declared.oks.Oks.{Oks}
 use Rattle.send_window.specs.Data.{SenderData, IsSound}
 use Rattle.send_window.specs.Session.{HoldsIssued}
-use Rattle.octo_session_line_proof.specs.Pieces.{Piece, greeting, Sent, Answer, greeting_ok, command_ok, refusal, asking, closing, chat, restart, heard_in, replies_on, entry_in, logged_in, bytes_on, Each, IsFit, IsGreeting, IsSentEarly, IsSentLate, AreLinesFrom}
+use Rattle.octo_session_line_proof.specs.Pieces.{Piece, greeting, Sent, Answer, greeting_ok, command_ok, refusal, asking, closing, chat, restart, Heard, ok_heard, resend_heard, start_heard, talk_heard, heard_in, replies_on, entry_in, logged_in, bytes_on, Each, IsFit, IsGreeting, IsSentEarly, IsSentLate, AreLinesFrom}
 
 -- the session as the printer and the wires have it
 pub record Wires : Type 0 where
@@ -18,17 +19,20 @@ pub record Wires : Type 0 where
   pub queue : List Piece
   pub log : List Piece
   pub up : List Sent
-  pub way : List Answer
 
--- a world shows these wires; the log had these lines before the session
-pub record Shows (start : List Logged) (a : Wires) (w : WorldData) : Type 0 where
+-- how a session began: what the log had before it, and whether its sender counts by the numbers of `ok`s; and whether the
+-- printer may restart in it
+pub record Start : Type 0 where
+  pub log : List Logged
+  pub numbered : Bool
+  pub restarted : Bool
+
+-- a world shows these wires
+pub record Shows (start : Start) (a : Wires) (w : WorldData) : Type 0 where
   pub few : w.printer.slots ≤ 16
-  -- no reply is lost
-  pub plain : w.printer.oks.lost ≡ false
   pub queue : w.printer.queue ≡ map entry_in a.queue
-  pub log : w.log ≡ start ++ map logged_in a.log
+  pub log : w.log ≡ start.log ++ map logged_in a.log
   pub up : w.up ≡ map bytes_on a.up
-  pub down : map heard_in w.down ≡ replies_on a.way
 
 -- the printer's last number: the number of the last line accepted, or 0 after a restart
 abbrev pub last_at : Bool → ℕ → ℕ
@@ -151,21 +155,21 @@ pub record IsEarly (s : SenderData) (ran dropped : Bool) (queue : List Piece) (u
   pub swallows : s.swallow ≡ is_closing way
 
 -- where a session is: its link is closed, the hello's `ok` wasn't read, or it was
-pub data Phase (issued : List (List ℕ)) (s : SenderData) (linked : Bool) (a : Wires) : Type 0 where
-  shut : linked ≡ false → a.up ≡ [] → a.way ≡ [] → Phase issued s linked a
-  early : linked ≡ true → s.ready ≡ false → IsEarly s a.ran a.dropped a.queue a.up a.way → Phase issued s linked a
-  late : linked ≡ true → s.ready ≡ true → a.ran ≡ true → Each (IsSentLate issued) a.up → Phase issued s linked a
+pub data Phase (issued : List (List ℕ)) (s : SenderData) (linked : Bool) (a : Wires) (way : List Answer) : Type 0 where
+  shut : linked ≡ false → a.up ≡ [] → way ≡ [] → Phase issued s linked a way
+  early : linked ≡ true → s.ready ≡ false → IsEarly s a.ran a.dropped a.queue a.up way → Phase issued s linked a way
+  late : linked ≡ true → s.ready ≡ true → a.ran ≡ true → Each (IsSentLate issued) a.up → Phase issued s linked a way
 
--- the ends that a session may have
-abbrev pub IsFair : Option SessionEnd → Type 0
-IsFair None = Unit {0}
-IsFair (Some (NoAnswer count)) = Unit {0}
-IsFair (Some (AskedBack number acknowledged)) = ⊥
-IsFair (Some (AskedAhead number all)) = ⊥
-IsFair (Some (Counts number expected)) = ⊥
-IsFair (Some Restarted) = Unit {0}
-IsFair (Some (LostOk limits)) = Unit {0}
-IsFair (Some (NumbersUsed all)) = Unit {0}
+-- the ends that a session may have, by whether the printer may ask for an acknowledged line
+abbrev pub IsFair : Bool → Option SessionEnd → Type 0
+IsFair asks_back None = Unit {0}
+IsFair asks_back (Some (NoAnswer count)) = Unit {0}
+IsFair asks_back (Some (AskedBack number acknowledged)) = asks_back ≡ true
+IsFair asks_back (Some (AskedAhead number all)) = ⊥
+IsFair asks_back (Some (Counts number expected)) = ⊥
+IsFair asks_back (Some Restarted) = Unit {0}
+IsFair asks_back (Some (LostOk limits)) = Unit {0}
+IsFair asks_back (Some (NumbersUsed all)) = Unit {0}
 
 -- what the replies on the way say while the session hasn't ended
 pub record IsRead (s : SenderData) (dropped : Bool) (way : List Answer) (run : ℕ) : Type 0 where
@@ -174,21 +178,103 @@ pub record IsRead (s : SenderData) (dropped : Bool) (way : List Answer) (run : �
 
 -- the acknowledged lines have run, and the replies on the way are the right ones
 pub record Replies (s : SenderData) (linked dropped : Bool) (log : List Piece) (way : List Answer) : Type 0 where
-  pub fair : IsFair s.ended
+  pub fair : IsFair false s.ended
   pub acked_run : s.acked ≤ lines_run log
   pub reads : s.ended ≡ None → linked ≡ true → s.ready ≡ true → IsRead s dropped way (lines_run log)
 
--- all of it
-pub record Numbers (issued : List (List ℕ)) (s : SenderData) (linked : Bool) (last : ℕ) (a : Wires) : Type 0 where
+-- how many Resends are on the way
+abbrev pub resends : List Heard → ℕ
+resends [] = 0
+resends (ok_heard number ∷ way) = resends way
+resends (resend_heard number ∷ way) = suc (resends way)
+resends (start_heard ∷ way) = resends way
+resends (talk_heard ∷ way) = resends way
+
+-- how many `ok`s on the way name a line
+abbrev pub named_on : List Heard → ℕ
+named_on [] = 0
+named_on (ok_heard None ∷ way) = named_on way
+named_on (ok_heard (Some number) ∷ way) = suc (named_on way)
+named_on (resend_heard number ∷ way) = named_on way
+named_on (start_heard ∷ way) = named_on way
+named_on (talk_heard ∷ way) = named_on way
+
+-- an `ok` that names a line names the hello
+abbrev pub IsEarlyHeard : Heard → Type 0
+IsEarlyHeard (ok_heard None) = Unit {0}
+IsEarlyHeard (ok_heard (Some number)) = number ≡ 0
+IsEarlyHeard (resend_heard number) = Unit {0}
+IsEarlyHeard start_heard = Unit {0}
+IsEarlyHeard talk_heard = Unit {0}
+
+-- before the hello's `ok` was read, if `ok`s count by their numbers: each reply on the way may be lost
+pub record IsNamedEarly (s : SenderData) (ran : Bool) (queue : List Piece) (up : List Sent) (way : List Heard) : Type 0 where
+  pub ups : Each IsSentEarly up
+  pub one : length up + length queue + resends way + named_on way ≤ 1
+  pub due : s.hello_due ≡ true → length up + length queue + resends way + named_on way ≡ 0
+  pub unrun_ok : ran ≡ false → named_on way ≡ 0
+  pub run_ok : ran ≡ true → (length up + length queue + resends way ≡ 0) × (s.hello_due ≡ false)
+  pub way_so : Each IsEarlyHeard way
+
+-- where such a session is
+pub data NamedPhase (issued : List (List ℕ)) (s : SenderData) (linked : Bool) (a : Wires) (way : List Heard) : Type 0 where
+  named_shut : linked ≡ false → a.up ≡ [] → way ≡ [] → NamedPhase issued s linked a way
+  named_early : linked ≡ true → s.ready ≡ false → IsNamedEarly s a.ran a.queue a.up way → NamedPhase issued s linked a way
+  named_late : linked ≡ true → s.ready ≡ true → a.ran ≡ true → Each (IsSentLate issued) a.up → NamedPhase issued s linked a way
+
+-- the replies on the way, if `all` lines were issued, `acked` acknowledged and `run` have run: an `ok` names a line that ran,
+-- and a Resend asks for a line that didn't, or for the first number if the printer restarted
+abbrev pub NamesRun : Bool → ℕ → ℕ → ℕ → List Heard → Type 0
+NamesRun dropped all acked run [] = Unit {0}
+NamesRun dropped all acked run (ok_heard None ∷ way) = NamesRun dropped all acked run way
+NamesRun dropped all acked run (ok_heard (Some number) ∷ way) = (number ≤ wire_number run) × NamesRun dropped all (max acked (place_of number)) run way
+NamesRun dropped all acked run (resend_heard number ∷ way) = (IsAsked all acked number ⊎ ((dropped ≡ true) × (number ≡ 1))) × NamesRun dropped all acked run way
+NamesRun dropped all acked run (start_heard ∷ way) = NamesRun dropped all acked run way
+NamesRun dropped all acked run (talk_heard ∷ way) = NamesRun dropped all acked run way
+
+-- the acknowledged lines have run, and the replies on the way are the right ones
+pub record NamedReplies (s : SenderData) (linked dropped : Bool) (log : List Piece) (way : List Heard) : Type 0 where
+  pub fair : IsFair dropped s.ended
+  pub acked_run : s.acked ≤ lines_run log
+  pub reads : s.ended ≡ None → linked ≡ true → s.ready ≡ true → NamesRun dropped s.issued s.acked (lines_run log) way
+
+-- what is on the way if `ok`s count by their numbers, which the printer's have
+pub record Named (issued : List (List ℕ)) (s : SenderData) (linked : Bool) (oks : Oks) (a : Wires) (down : List (List ℕ)) : Type 0 where
+  pub by_number : s.numbered ≡ true
+  pub numbers : oks.numbered ≡ true
+  pub phase : NamedPhase issued s linked a (map heard_in down)
+  pub replies : NamedReplies s linked a.dropped a.log (map heard_in down)
+
+-- what the printer accepted and the sender holds
+pub record Numbers (issued : List (List ℕ)) (s : SenderData) (last : ℕ) (a : Wires) : Type 0 where
   pub sound : IsSound s
   pub holds : HoldsIssued issued s
   pub fit : Each IsFit issued
   pub printed : Printed issued a.ran a.dropped last a.queue a.log
-  pub phase : Phase issued s linked a
-  pub replies : Replies s linked a.dropped a.log a.way
 
--- a sender that issued these lines and a world fit together; the log had the lines `start` before the session
-pub record Meets (start : List Logged) (issued : List (List ℕ)) (s : SenderData) (w : WorldData) : Type 0 where
+-- what is on the way if the sender counts `ok`s, and the link loses no reply
+pub record Counted (issued : List (List ℕ)) (s : SenderData) (linked : Bool) (oks : Oks) (a : Wires) (down : List (List ℕ)) : Type 0 where
+  pub counts : s.numbered ≡ false
+  pub plain : oks.lost ≡ false
+  pub way : List Answer
+  pub shown : map heard_in down ≡ replies_on way
+  pub phase : Phase issued s linked a way
+  pub replies : Replies s linked a.dropped a.log way
+
+-- what is on the way from the printer, by what an `ok` counts
+pub data Reads (issued : List (List ℕ)) (s : SenderData) (linked : Bool) (oks : Oks) (a : Wires) (down : List (List ℕ)) : Type 0 where
+  counting : Counted issued s linked oks a down → Reads issued s linked oks a down
+  naming : Named issued s linked oks a down → Reads issued s linked oks a down
+
+-- a sender's session began so, and the printer has restarted only if it may
+pub record Began (start : Start) (s : SenderData) (dropped : Bool) : Type 0 where
+  pub kind : s.numbered ≡ start.numbered
+  pub known : dropped ≡ true → start.restarted ≡ true
+
+-- a sender that issued these lines and a world fit together, in a session that began so
+pub record Meets (start : Start) (issued : List (List ℕ)) (s : SenderData) (w : WorldData) : Type 0 where
   pub wires : Wires
+  pub begun : Began start s wires.dropped
   pub shows : Shows start wires w
-  pub numbers : Numbers issued s w.linked w.printer.last wires
+  pub numbers : Numbers issued s w.printer.last wires
+  pub reads : Reads issued s w.linked w.printer.oks wires w.down

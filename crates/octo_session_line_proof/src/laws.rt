@@ -18,7 +18,7 @@ ghost use Rattle.octo_session_line_proof.specs.Tied.{TiedAs, FormerTiedAs};
 /// A new session is linked over a closed link, and a call of the desk alone leaves it linked.
 pub fn linked_law()
     ensures begins { (kind : LinkKind) (recorded : Option (List WorldEvent)) (x : SessionData)
-        → x.up ≡ false → IsSound x.sender → SuitsAs false recorded kind.oks
+        → x.up ≡ false → IsSound x.sender → SuitsAs x.sender.numbered recorded kind.oks
         → IsOpenAs kind recorded false
         → LinkedAs kind recorded [] x }
     ensures desk { (kind : LinkKind) (recorded : Option (List WorldEvent)) (issued : List (List ℕ))
@@ -58,5 +58,5 @@ pub fn turn_law()
     ensures caused { (kind : LinkKind) (past later : Option (List WorldEvent))
         (x y : SessionData) (turned : Turned) (issued : List (List ℕ)) (end : SessionEnd)
         → IsTurnOver kind past later x y turned → fact_of turned.note ≡ fact.Ended end
-        → LinkedAs kind past issued x → EndCausedAs kind later end }
+        → LinkedAs kind past issued x → EndCausedAs x.sender.numbered kind later end }
 {}
