@@ -1,5 +1,5 @@
 -- The calls of a print on its desk.
-use Rattle.std.proofs.Common.{◌≡◌, ℕ, List, [], ◌∷◌, ◌++◌, All, None, Ok, refl, sym, ◌∙◌, ap, subst, arith, append_assoc}
+use Rattle.std.proofs.Common.{◌≡◌, ℕ, Bool, List, [], ◌∷◌, ◌++◌, All, None, Ok, refl, sym, ◌∙◌, ap, subst, arith, append_assoc}
 use Rattle.std.proofs.lemmas.List.{append-nil}
 use Rattle.std.proofs.lemmas.List.Elements.{All-cons}
 use Rattle.temp_rules.specs.Hot.{first_hot_of}
@@ -14,12 +14,14 @@ use Rattle.octo_session.specs.Plan.{empty}
 use Rattle.octo_session_plan_proof.specs.Underway.{standing, IsLast, IsUnderway}
 use Rattle.octo_session_plan_proof.specs.Underway as phase
 use Rattle.octo_session_plan_proof.specs.Progress.{after_select}
-use Rattle.octo_session_plan_proof.proofs.Phases.{connected_of, ended_of}
+use Rattle.octo_session_plan_proof.proofs.Phases.{none_closing, connected_of, ended_of}
 
 -- a new desk connects, and a file is selected: nothing was issued
-pub new_underway : (scripts : ScriptTexts) (limits : Limits) (poll_ms : ℕ) (port : List ℕ) (file : File)
-    → IsUnderway (record { scripts = scripts; limits = limits; file = file }) (after_select port file (new_desk scripts limits poll_ms)) []
-new_underway scripts limits poll_ms port file = record {
+pub new_underway : (scripts : ScriptTexts) (limits : Limits) (poll_ms : ℕ) (numbered : Bool) (port : List ℕ) (file : File)
+    → IsUnderway (record { numbered = numbered; scripts = scripts; limits = limits; file = file })
+    (after_select port file (new_desk scripts limits poll_ms numbered)) []
+new_underway scripts limits poll_ms numbered port file = record {
+  numbered_is = refl;
   scripts_are = refl;
   limits_are = refl;
   file_is = refl;
@@ -30,15 +32,16 @@ new_underway scripts limits poll_ms port file = record {
   sent = [];
   parted = refl;
   woven = empty;
-  counted = λ below. record { all = refl; print = omega arith };
-  acknowledged = λ off. omega arith;
+  counted = λ below. record { all = refl; print = omega arith; last = omega arith };
+  by_last = λ below. empty;
+  acknowledged = λ off. none_closing numbered;
 }
 
-pub select-underway : (d : Data) (port : List ℕ) (file : File) → d ≡ new_desk d.scripts d.limits d.poll_ms
-    → IsUnderway (record { scripts = d.scripts; limits = d.limits; file = file }) (after_select port file d) []
+pub select-underway : (d : Data) (port : List ℕ) (file : File) → d ≡ new_desk d.scripts d.limits d.poll_ms d.numbered
+    → IsUnderway (record { numbered = d.numbered; scripts = d.scripts; limits = d.limits; file = file }) (after_select port file d) []
 select-underway d port file e =
-    subst (λ (x : Data). IsUnderway (record { scripts = x.scripts; limits = x.limits; file = file }) (after_select port file x) []) (sym e)
-    (new_underway d.scripts d.limits d.poll_ms port file)
+    subst (λ (x : Data). IsUnderway (record { numbered = x.numbered; scripts = x.scripts; limits = x.limits; file = file }) (after_select port file x) []) (sym e)
+    (new_underway d.scripts d.limits d.poll_ms d.numbered port file)
 
 none_printed : (p : PrintData) → printed_lines p 0 ≡ started_lines p
 none_printed p = append-nil (started_lines p)
@@ -61,6 +64,7 @@ module _ (p : PrintData) where
       sym (append_assoc h.sent d.waiting (script_lines d.scripts point.Started 1))
       ∙ ap (λ (l : List Line). l ++ script_lines d.scripts point.Started 1) (h.parted ∙ on.are) ∙ ap (λ (l : List Line). connected_lines p ++ l) script in
       record {
+        numbered_is = h.numbered_is;
         scripts_are = h.scripts_are;
         limits_are = h.limits_are;
         file_is = h.file_is;
@@ -71,7 +75,8 @@ module _ (p : PrintData) where
         sent = h.sent;
         parted = before ∙ sym (none_printed p);
         woven = h.woven;
-        counted = λ below. (let c = h.counted below in record { all = c.all; print = omega arith });
+        counted = λ below. (let c = h.counted below in record { all = c.all; print = omega arith; last = c.last });
+        by_last = h.by_last;
         acknowledged = λ off. (let clash : Printing ≡ Offline = off in absurd (cc clash));
       }
 
@@ -95,6 +100,7 @@ module _ (p : PrintData) where
       ap (λ (w : List Line). w ++ script_lines d.scripts point.Disconnect 0) on.none ∙ ap (λ s. script_lines s point.Disconnect 0) h.scripts_are in
       let all : h.sent ≡ done_lines p = sym (append-nil h.sent) ∙ ap (λ (w : List Line). h.sent ++ w) (sym on.none) ∙ h.parted ∙ on.are in
       let closed : IsUnderway p (closing d) issued = record {
+        numbered_is = h.numbered_is;
         scripts_are = h.scripts_are;
         limits_are = h.limits_are;
         file_is = h.file_is;
@@ -106,7 +112,8 @@ module _ (p : PrintData) where
         sent = h.sent;
         parted = ap (λ (w : List Line). h.sent ++ w) script ∙ ap (λ (l : List Line). l ++ script_lines p.scripts point.Disconnect 0) all;
         woven = h.woven;
-        counted = λ below. (let c = h.counted below in record { all = c.all; print = c.print });
+        counted = λ below. (let c = h.counted below in record { all = c.all; print = c.print; last = c.last });
+        by_last = h.by_last;
         acknowledged = λ off. (let clash : Closing ≡ Offline = off in absurd (cc clash));
       } in
       subst (λ s. IsUnderway p (disconnect_at s d) issued) (sym at) closed

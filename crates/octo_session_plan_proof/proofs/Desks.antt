@@ -1,12 +1,12 @@
 -- What a quiet turn makes of the desk of a print, as far as it counts turns.
-use Rattle.std.proofs.Common.{◌≡◌, inl, inr, ℕ, ◌+◌, ◌<◌, ◌≤◌, Bool, true, false, cond, codes, List, [], ◌∷◌, slice_get, Option, None, Some, refl, sym, ◌∙◌, ap, subst, arith}
+use Rattle.std.proofs.Common.{◌≡◌, inl, inr, ℕ, ◌+◌, ◌<◌, ◌≤◌, Bool, true, false, cond, List, [], ◌∷◌, slice_get, Option, None, Some, refl, sym, ◌∙◌, ap, subst, arith}
 use Rattle.job_desk.specs.Data.{Data, Line, commands_of, with_script, moment_after}
-use Rattle.job_desk.specs.Pull.{Drawn, draw_in_order, nothing, issue, from_scripts, from_manual, from_poll, poll_is_due, from_file, draw_last, draw_at, is_issued, settle_at, settled, pull_step}
-use Rattle.job_desk.specs.Note.{Noted, end_at, is_over, finish, after_open, ready_at, note_step}
+use Rattle.job_desk.specs.Pull.{Drawn, draw_in_order, nothing, from_manual, from_poll, poll_is_due, from_probe, from_file, draw_last, draw_at, is_issued, settle_at, settled, pull_step}
+use Rattle.job_desk.specs.Note.{Noted, end_at, is_over, finish, after_open, ready_at, note_step, with_acked}
 use Rattle.job_desk.specs.declared.state.State.{State}
 use Rattle.job_desk.specs.declared.state.State.TheVariants.{Offline, Connecting, Operational, Printing, Pausing, Paused, Cancelling, Finishing, Closing, Fault}
 use Rattle.job_desk.specs.declared.state.Point.TheVariants as point
-use Rattle.job_desk.specs.declared.state.Tag.TheVariants.{Job, Manual, Poll}
+use Rattle.job_desk.specs.declared.state.Tag.TheVariants.{Job}
 use Rattle.job_desk.specs.declared.link_fact.LinkFact.TheVariants as fact
 use Rattle.print_queue.specs.declared.ending.Ending.{Ending}
 use Rattle.print_queue.specs.declared.ending.Outcome.TheVariants as outcome
@@ -16,11 +16,12 @@ use Rattle.octo_session_plan_proof.specs.Plan.{PrintData}
 use Rattle.octo_session_plan_proof.specs.Underway.{IsUnderway}
 use Rattle.octo_session_plan_proof.specs.Progress.{after_pull}
 use Rattle.octo_session_plan_proof.specs.Remaining.{ArePaced}
-use Rattle.octo_session_plan_proof.proofs.Pulling.{issue_state, pull-underway}
+use Rattle.octo_session_plan_proof.proofs.Issues.{issue_state}
+use Rattle.octo_session_plan_proof.proofs.Pulling.{pull-underway}
 use Rattle.octo_session_plan_proof.proofs.Noting.{note-underway}
 use Rattle.octo_session_plan_proof.proofs.Polls.{pull-paced, pulls-paced}
 use Rattle.octo_session_plan_proof.specs.OnWay.{IsInPrint}
-use Rattle.octo_session_plan_proof.proofs.States.{kept_poll, kept_manual, kept_scripts, pulls_keep}
+use Rattle.octo_session_plan_proof.proofs.States.{kept_poll, kept_probe, kept_manual, kept_scripts, pulls_keep}
 
 -- What a pull leaves of the state.
 
@@ -55,16 +56,16 @@ print_pull moment d (inl at) =
     ∙ talk_state moment d (from_file (slice_get (commands_of d.file) d.cursor) d) (file_state (slice_get (commands_of d.file) d.cursor) d) ∙ at)
 print_pull moment d (inr at) =
     inr (settle_finishing (draw_at d.state moment d).1
-    (ap (λ s. (draw_at s moment d).1.state) at ∙ talk_state moment d (nothing d) refl ∙ at))
+    (ap (λ s. (draw_at s moment d).1.state) at ∙ talk_state moment d (from_probe d.issued moment d) (kept_probe d.issued moment d) ∙ at))
 
-kept_last : (b : Bool) (d : Data) → (draw_last b d).1.state ≡ d.state
-kept_last false d = kept_scripts d.waiting d (nothing d) refl
-kept_last true d = kept_manual d.manual d (nothing d) refl
+kept_last : (b : Bool) (moment : ℕ) (d : Data) → (draw_last b moment d).1.state ≡ d.state
+kept_last false moment d = kept_scripts d.waiting d (from_probe d.last_line moment d) (kept_probe d.last_line moment d)
+kept_last true moment d = kept_manual d.manual d (nothing d) refl
 
 closing_pull : (moment : ℕ) (d : Data) → d.state ≡ Closing → (pull_step moment d).1.state ≡ Closing
 closing_pull moment d at =
     settle_closing (draw_at d.state moment d).1
-    (ap (λ s. (draw_at s moment d).1.state) at ∙ kept_last d.stopped d ∙ at)
+    (ap (λ s. (draw_at s moment d).1.state) at ∙ kept_last d.stopped moment d ∙ at)
 
 print_pulls : (moment : ℕ) (lines : List Line) (old new : Data) → IsInPrint old.state → Pulls moment lines old new → IsInPrint new.state
 print_pulls moment [] old new at pulls = subst (λ (d : Data). IsInPrint d.state) (sym pulls) at
@@ -87,7 +88,7 @@ pub data IsQuietFor (ending : Option Ending) (old new : Data) : Type 0 where
 note_prints : (acked moment : ℕ) (d : Data) → d.state ≡ Printing →
     ((note_step acked fact.Quiet moment d).0 ≡ None) × IsInPrint (note_step acked fact.Quiet moment d).1.state
 note_prints acked moment d at =
-    let told : Data = record d { acked = acked } in
+    let told : Data = with_acked acked moment d in
     let same : settled (end_at d.state told).1 ≡ settled told = ap (λ s. settled (end_at s told).1) at in (
       ap (λ s. (end_at s told).0) at,
       subst (λ (e : Data). IsInPrint e.state) (sym same) (settle_print told at),
@@ -96,7 +97,7 @@ note_prints acked moment d at =
 note_closes : (acked moment : ℕ) (d : Data) → d.state ≡ Closing →
     ((note_step acked fact.Quiet moment d).0 ≡ None) × ((note_step acked fact.Quiet moment d).1.state ≡ Closing)
 note_closes acked moment d at =
-    let told : Data = record d { acked = acked } in (
+    let told : Data = with_acked acked moment d in (
       ap (λ s. (end_at s told).0) at,
       ap (λ s. (settled (end_at s told).1).state) at ∙ settle_closing told at,
     )
@@ -110,7 +111,7 @@ note_finishes : (acked moment : ℕ) (d : Data) → d.state ≡ Finishing → Fi
 note_finishes acked moment d at = by_over (is_over told) refl
   where
     told : Data
-    told = record d { acked = acked }
+    told = with_acked acked moment d
 
     by_over : (b : Bool) → is_over told ≡ b → FinishedSo (note_step acked fact.Quiet moment d)
     by_over true e =
@@ -206,22 +207,22 @@ ended_poll d =
     poll_then d done (settled done) (end_poll d.state d) (settle_poll done.state done)
 
 quiet_poll : (acked moment : ℕ) (d : Data) → IsSamePoll d (note_step acked fact.Quiet moment d).1
-quiet_poll acked moment d = let so = ended_poll (record d { acked = acked }) in record { at = so.at; ms = so.ms }
+quiet_poll acked moment d = let so = ended_poll (with_acked acked moment d) in record { at = so.at; ms = so.ms }
 
 pub opened_ms : (acked moment : ℕ) (d : Data) → (note_step acked fact.Opened moment d).1.poll_ms ≡ d.poll_ms
-opened_ms acked moment d = (ended_poll (after_open (record d { acked = acked }))).ms
+opened_ms acked moment d = (ended_poll (after_open (with_acked acked moment d))).ms
 
 pub ready_ms : (acked moment : ℕ) (d : Data) → d.state ≡ Connecting → (note_step acked fact.Ready moment d).1.poll_ms ≡ d.poll_ms
 ready_ms acked moment d at =
-    let told : Data = record d { acked = acked; ready = true } in
+    let told : Data = record (with_acked acked moment d) { ready = true } in
     (ended_poll (ready_at d.state moment told)).ms ∙ ap (λ s. (ready_at s moment told).poll_ms) at
 
-module _ (p : PrintData) (moment : ℕ) where
+module _ (p : PrintData) (plain : p.numbered ≡ false) (moment : ℕ) where
   pulls_ms : (lines : List Line) (old new : Data) (issued : List (List ℕ)) → Pulls moment lines old new → IsUnderway p old issued →
       new.poll_ms ≡ old.poll_ms
   pulls_ms [] old new issued pulls h = ap (λ (d : Data). d.poll_ms) pulls
   pulls_ms (line ∷ lines) old new issued pulls h =
-      let one = pull-paced p moment old issued h line pulls.0 in
+      let one = pull-paced p plain moment old issued h line pulls.0 in
       pulls_ms lines (pull_step moment old).1 new (after_pull (pull_step moment old).0 issued) pulls.1 (pull-underway p moment old issued h) ∙ one.same_ms
 
   repace : (lines : List Line) (old first pulled new : Data) → IsSamePoll old first → new ≡ pulled → ArePaced moment lines first pulled →
@@ -240,6 +241,6 @@ module _ (p : PrintData) (moment : ℕ) where
       let is : new ≡ n.pulled = ap (λ (q : Noted). q.1) n.is in
       let on : IsUnderway p first issued = (note-underway p fact.Quiet acked moment old issued more h).0 in
       let still : moment < moment_after moment first.poll_ms = subst (λ (ms : ℕ). moment < moment_after moment ms) (sym same.ms) later in (
-        repace lines old first n.pulled new same is (pulls-paced p moment lines first n.pulled issued still n.pulls on),
+        repace lines old first n.pulled new same is (pulls-paced p plain moment lines first n.pulled issued still n.pulls on),
         ap (λ (d : Data). d.poll_ms) is ∙ pulls_ms lines first n.pulled issued n.pulls on ∙ same.ms,
       )

@@ -141,7 +141,7 @@ module _ (moment at poll_ms : ℕ) (kind : LinkKind) (old_past new_past : Option
       later = subst (λ (ms : ℕ). moment < moment_after moment ms) (sym g.desk.its_ms) h.poll_later
 
       paced : ArePaced moment h.turn.lines old.desk mid.desk × (mid.desk.poll_ms ≡ old.desk.poll_ms)
-      paced = quiet_paced p moment mid.sender.acked h.turn.lines old.desk turned.ending mid.desk g.desk.issued later more noted g.desk.course
+      paced = quiet_paced p g.desk.plain moment mid.sender.acked h.turn.lines old.desk turned.ending mid.desk g.desk.issued later more noted g.desk.course
 
       still_few : mid.sender.issued < most_lines
       still_few = by paced.0
@@ -240,7 +240,7 @@ module _ (moment at poll_ms : ℕ) (kind : LinkKind) (old_past new_past : Option
           turned.ending ≡ None → LeadsOn fact.Quiet turned.ending kind p poll_ms at (left - 1) new_past mid
       goes_with n phase fewer fewest none =
           let L : Option Ending → Type 0 = λ e. LeadsOn fact.Quiet e kind p poll_ms at (left - 1) new_past mid in
-          let desk : HasCourse p poll_ms mid.desk = record { issued = now; course = course; cool = g.desk.cool; its_ms = paced.1 ∙ g.desk.its_ms } in
+          let desk : HasCourse p poll_ms mid.desk = record { issued = now; course = course; cool = g.desk.cool; its_ms = paced.1 ∙ g.desk.its_ms; plain = g.desk.plain } in
           subst L (sym none) (goes (going_with mid.desk desk refl refl n phase fewer fewest))
 
       -- the print ended, and the desk disconnects
@@ -252,7 +252,7 @@ module _ (moment at poll_ms : ℕ) (kind : LinkKind) (old_past new_past : Option
           let L : Option Ending → Type 0 = λ x. LeadsOn fact.Quiet x kind p poll_ms at (left - 1) new_past mid in
           let ms : leaving.poll_ms ≡ mid.desk.poll_ms = ap (λ s. (disconnect_at s mid.desk).poll_ms) free.0 in
           let desk : HasCourse p poll_ms leaving =
-          record { issued = now; course = disconnect-underway p mid.desk now free.0 free.1 course; cool = g.desk.cool; its_ms = ms ∙ paced.1 ∙ g.desk.its_ms }
+          record { issued = now; course = disconnect-underway p mid.desk now free.0 free.1 course; cool = g.desk.cool; its_ms = ms ∙ paced.1 ∙ g.desk.its_ms; plain = g.desk.plain }
           in
           subst L (sym is)
           (goes (going_with leaving desk (ap (λ s. (disconnect_at s mid.desk).poll_at) free.0) (disconnect-remaining p mid.desk now free.0 free.1 course)
@@ -293,7 +293,7 @@ module _ (moment at poll_ms : ℕ) (kind : LinkKind) (old_past new_past : Option
       closed_now : old.desk.state ≡ Closing → old.desk.waiting ≡ [] → old.sender.acked ≡ old.sender.issued → ⊥
       closed_now state none all =
           let shut : is_closable_at old.desk.state old.desk ≡ true =
-          closes-next p old.desk state g.desk.course.unstopped none (omega (arith, all, h.kept.before.issued, h.kept.before.acked))
+          closes-next p old.desk (g.desk.course.numbered_is ∙ g.desk.plain) state g.desk.course.unstopped none (omega (arith, all, h.kept.before.issued, h.kept.before.acked))
           in
           let no : true ≡ false = sym shut ∙ unshut in
           absurd (cc)

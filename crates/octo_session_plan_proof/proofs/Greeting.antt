@@ -61,6 +61,7 @@ hello_sent moment s w added i after_giving prompt =
     let printer = subst N (sym went.printer) (i.queue, i.some, i.few) in
     subst S (sym after) (record {
       unready = i.unready;
+      counts = i.counts;
       awaiting = i.awaiting;
       running = i.running;
       sound = subst Q after (gives_sound moment s i.sound);
@@ -182,7 +183,7 @@ greeting_heard moment bytes s w added i is prompt =
     let R : List ℕ → Type 0 = λ b. IsRunReply b 0 in
     let heard : IsRunReply bytes 0 = subst R (same ∙ sym is.whole) h.heard in
     let answer : hear_step (kind_of bytes) moment s ≡ made_ready s =
-    hear_as bytes (ok_heard (named_by heard.named 0)) moment s i.running heard.heard ∙ ok_by false false (named_by heard.named 0) moment s i.awaiting i.unready
+    hear_as bytes (ok_heard (named_by heard.named 0)) moment s i.running heard.heard ∙ ok_by false false (named_by heard.named 0) moment s i.counts i.awaiting i.unready
     in
     let none : s.issued ≡ 0 = i.sound.hello_first i.unready in
     let zero_acked : s.acked ≡ 0 = omega (arith, i.sound.counted, none) in
@@ -194,6 +195,7 @@ greeting_heard moment bytes s w added i is prompt =
       is = answer;
       saying = record {
         ready_is = refl;
+        counts = i.counts;
         awaiting = i.awaiting;
         running = i.running;
         sound = subst S answer (hears_sound (kind_of bytes) moment s i.sound);
@@ -206,9 +208,9 @@ greeting_heard moment bytes s w added i is prompt =
     }
 
 -- a link that was just made
-pub dial_greeting : (s : SenderData) (w : WorldData) (added : List WorldEvent) (last : ℕ) → IsSound s → IsDial w added → 1 ≤ w.printer.slots →
+pub dial_greeting : (s : SenderData) (w : WorldData) (added : List WorldEvent) (last : ℕ) → s.numbered ≡ false → IsSound s → IsDial w added → 1 ≤ w.printer.slots →
     w.printer.slots ≤ 16 → IsGreeting [] true (sender_after_dial s) (world_from w added)
-dial_greeting s w added last sound dial some few =
+dial_greeting s w added last counts sound dial some few =
     let before : WorldData = world_from w dial.runs in
     let idle : (before.linked ≡ false) × (before.printer.queue ≡ []) = empties before dial.opens in
     let is : world_from w added ≡ happen before (Opened dial.last) =
@@ -219,6 +221,7 @@ dial_greeting s w added last sound dial some few =
     let slots : P (world_from w added) = subst P (sym is) (omega (arith, kept.slots, some), omega (arith, kept.slots, few)) in
     record {
       unready = refl;
+      counts = counts;
       awaiting = refl;
       running = refl;
       sound = begun_sound s sound;

@@ -83,7 +83,7 @@ module _ (moment at poll_ms : ℕ) (kind : LinkKind) (old_past new_past : Option
         in
         let made = a.are.3.0 in
         let all : a.added ≡ a.are.0 = a.are.2 ∙ ap (λ (es : List WorldEvent). a.are.0 ++ es) a.are.4 ∙ append-nil a.are.0 in
-        let new : IsGreeting [] true (sender_after_dial old.sender) (world_from w a.are.0) = dial_greeting old.sender w a.are.0 0 d.sound made.0 made.1.some made.1.few in
+        let new : IsGreeting [] true (sender_after_dial old.sender) (world_from w a.are.0) = dial_greeting old.sender w a.are.0 0 d.counts d.sound made.0 made.1.some made.1.few in
         let S : SenderData → Type 0 = λ s. IsGreeting [] true s (world_from w a.are.0) in
         let W : List WorldEvent → Type 0 = λ es. IsGreeting [] true mid.sender (world_from w es) in
         let N : LinkFact → Type 0 = λ f. IsNoted moment mid.sender.acked f h.turn.lines old.desk turned.ending mid.desk in
@@ -101,6 +101,7 @@ module _ (moment at poll_ms : ℕ) (kind : LinkKind) (old_past new_past : Option
             issued = issued_in h.turn.found (texts_in h.turn.lines) d.desk.issued;
             course = turn_course.underway;
             cool = d.desk.cool;
+            plain = d.desk.plain;
             its_ms = ap (λ (x : Data). x.poll_ms) desk ∙ opened_ms mid.sender.acked moment old.desk ∙ d.desk.its_ms;
           };
           greeting = at_world kind past.0 a.added new_past (λ v. IsGreeting [] true mid.sender v) a.recorded (subst W (sym all) (subst S (sym a.sender) new));
@@ -186,7 +187,7 @@ module _ (moment at poll_ms : ℕ) (kind : LinkKind) (old_past new_past : Option
         let S : SenderData → Type 0 = λ s. IsGreeting (hello_frame ∷ []) false s (world_from w a.added) in
         let course = met_course 11 [] true g in
         let later : moment < moment_after moment old.desk.poll_ms = subst (λ (ms : ℕ). moment < moment_after moment ms) (sym g.desk.its_ms) h.poll_later in
-        let paced = quiet_paced p moment mid.sender.acked h.turn.lines old.desk turned.ending mid.desk g.desk.issued later
+        let paced = quiet_paced p g.desk.plain moment mid.sender.acked h.turn.lines old.desk turned.ending mid.desk g.desk.issued later
         (met_more 11 [] true g fact.Quiet found (λ no. absurd (cc))) (met_noted 11 [] true g fact.Quiet found) g.desk.course
         in
         record {
@@ -196,6 +197,7 @@ module _ (moment at poll_ms : ℕ) (kind : LinkKind) (old_past new_past : Option
             issued = issued_in h.turn.found (texts_in h.turn.lines) g.desk.issued;
             course = course.underway;
             cool = g.desk.cool;
+            plain = g.desk.plain;
             its_ms = paced.1 ∙ g.desk.its_ms;
           };
           greeting = at_world kind g.greeting.now a.added new_past (λ v. IsGreeting (hello_frame ∷ []) false mid.sender v) a.recorded (subst S (sym a.sender) said);
@@ -282,6 +284,7 @@ module _ (moment at poll_ms : ℕ) (kind : LinkKind) (old_past new_past : Option
             issued = issued;
             course = so.1;
             cool = g.desk.cool;
+            plain = g.desk.plain;
             its_ms = ap (λ (x : Data). x.poll_ms) desk ∙ ready_ms mid.sender.acked moment old.desk g.connects ∙ g.desk.its_ms;
           };
           saying = at_world kind g.greeting.now a.added new_past (λ v. IsReadySession mid.sender v) a.recorded (subst S (sym sender) heard.1);

@@ -2,15 +2,16 @@
 use Rattle.std.proofs.Common.{◌≡◌, ℕ, zero, suc, ◌≤◌, ◌<◌, Bool, true, false, cond, nat_le, ◌&&◌, ◌||◌, not, ◌==◌, codes, List, [], ◌∷◌, length, slice_get, Option, None, Some, refl, sym, ◌∙◌, ap, arith}
 use Rattle.std.proofs.lemmas.Bool.{false≢true, le-leb, eq-eqb}
 use Rattle.job_desk.specs.Data.{Data, Line, commands_of, with_script, moment_after}
-use Rattle.job_desk.specs.Table.{is_closable, is_closable_at}
-use Rattle.job_desk.specs.Pull.{Drawn, draw_in_order, nothing, issue, from_scripts, from_manual, from_poll, poll_is_due, from_file, draw_last, draw_at, is_issued, settle_at, settled, pull_step}
-use Rattle.job_desk.specs.Note.{end_at, is_over, finish, note_step}
+use Rattle.job_desk.specs.Table.{closing_line, is_closable, is_closable_at}
+use Rattle.job_desk.specs.Pull.{Drawn, draw_in_order, issue, from_scripts, from_manual, from_poll, poll_is_due, from_probe, from_file, draw_last, draw_at, is_issued, settle_at, settled, pull_step}
+use Rattle.job_desk.specs.Note.{end_at, is_over, finish, note_step, with_acked}
 use Rattle.job_desk.specs.declared.state.State.{State}
 use Rattle.job_desk.specs.declared.state.State.TheVariants.{Offline, Connecting, Operational, Printing, Pausing, Paused, Cancelling, Finishing, Closing, Fault}
 use Rattle.job_desk.specs.declared.state.Point.TheVariants as point
 use Rattle.job_desk.specs.declared.state.Tag.TheVariants.{Poll}
 use Rattle.job_desk.specs.declared.link_fact.LinkFact.TheVariants as fact
 use Rattle.print_queue.specs.declared.ending.Outcome.TheVariants as outcome
+use Rattle.job_desk.proofs.Probes.{plain_closing}
 use Rattle.octo_session_plan_proof.specs.Plan.{PrintData, print_commands}
 use Rattle.octo_session_plan_proof.specs.Underway.{standing, IsUnderway}
 use Rattle.octo_session_plan_proof.specs.Remaining.{is_giving}
@@ -67,10 +68,10 @@ module _ (p : PrintData) where
 
   idle_in : (s : State) (moment : ℕ) (d : Data) (issued : List (List ℕ)) → d.state ≡ s → is_giving s ≡ true → settled d ≡ d
       → (draw_at s moment d).0 ≡ None → IsUnderway p d issued → (d.waiting ≡ []) × (s ≡ Printing → ⊥)
-  idle_in Operational moment d issued at gives quiet e h = ((talk_left moment d (nothing d) e).0, λ is. absurd (cc is))
-  idle_in Finishing moment d issued at gives quiet e h = ((talk_left moment d (nothing d) e).0, λ is. absurd (cc is))
+  idle_in Operational moment d issued at gives quiet e h = ((talk_left moment d (from_probe d.issued moment d) e).0, λ is. absurd (cc is))
+  idle_in Finishing moment d issued at gives quiet e h = ((talk_left moment d (from_probe d.issued moment d) e).0, λ is. absurd (cc is))
   idle_in Closing moment d issued at gives quiet e h =
-      ((no_script_left d.waiting d (nothing d) (ap (λ (b : Bool). (draw_last b d).0) (sym h.unstopped) ∙ e)).0, λ is. absurd (cc is))
+      ((no_script_left d.waiting d (from_probe d.last_line moment d) (ap (λ (b : Bool). (draw_last b moment d).0) (sym h.unstopped) ∙ e)).0, λ is. absurd (cc is))
   idle_in Printing moment d issued at gives quiet e h = absurd (prints_on moment d issued quiet at e h)
   idle_in Offline moment d issued at gives quiet e h = absurd (false≢true gives)
   idle_in Connecting moment d issued at gives quiet e h = absurd (false≢true gives)
@@ -84,24 +85,27 @@ module _ (p : PrintData) where
       → IsUnderway p d issued → (d.waiting ≡ []) × (d.state ≡ Printing → ⊥)
   idle-remaining moment d issued gives quiet e h = idle_in d.state moment d issued refl gives quiet e h
 
-  over_test : (d : Data) (acked : ℕ) → d.waiting ≡ [] → d.print_line ≤ acked → is_over (record d { acked = acked }) ≡ true
-  over_test d acked none below = ap (λ (w : List Line). (length w == 0) && nat_le d.print_line acked) none ∙ le-leb d.print_line acked below
+  over_test : (d : Data) (acked moment : ℕ) → d.waiting ≡ [] → d.print_line ≤ acked → is_over (with_acked acked moment d) ≡ true
+  over_test d acked moment none below = ap (λ (w : List Line). (length w == 0) && nat_le d.print_line acked) none ∙ le-leb d.print_line acked below
 
   -- with all lines acknowledged, the next note ends a print that has none left
   pub done-next : (acked moment : ℕ) (d : Data) (issued : List (List ℕ)) → d.state ≡ Finishing → d.waiting ≡ [] → d.issued ≤ acked
       → d.issued < 18446744073709551615 → IsUnderway p d issued
       → (note_step acked fact.Quiet moment d).0 ≡ Some (record { print = 1; outcome = outcome.Done })
   done-next acked moment d issued at none all below h =
-      let told : Data = record d { acked = acked } in
+      let told : Data = with_acked acked moment d in
       let number : d.print_line ≤ d.issued = (h.counted below).print in
-      let over : is_over told ≡ true = over_test d acked none (omega (arith, number, all)) in
+      let over : is_over told ≡ true = over_test d acked moment none (omega (arith, number, all)) in
       let one : d.greatest ≡ 1 = (finishing_of p (standing d) h.lines h.phase at).on.print_is in
       ap (λ s. (end_at s told).0) at ∙ ap (λ (b : Bool). (cond b (finish outcome.Done told) (None, told)).0) over
       ∙ ap (λ (k : ℕ). Some (record { print = k; outcome = outcome.Done })) one
 
   -- and the connection may be closed
-  pub closes-next : (d : Data) → d.state ≡ Closing → d.stopped ≡ false → d.waiting ≡ [] → d.issued ≤ d.acked → is_closable_at d.state d ≡ true
-  closes-next d at goes none all =
-      let tests : ((length d.waiting == 0) && nat_le d.issued d.acked) ≡ true =
-      ap (λ (w : List Line). (length w == 0) && nat_le d.issued d.acked) none ∙ le-leb d.issued d.acked all in
+  pub closes-next : (d : Data) → d.numbered ≡ false → d.state ≡ Closing → d.stopped ≡ false → d.waiting ≡ [] → d.issued ≤ d.acked
+      → is_closable_at d.state d ≡ true
+  closes-next d plain at goes none all =
+      let last : closing_line d ≡ d.issued = plain_closing d plain in
+      let tests : ((length d.waiting == 0) && nat_le (closing_line d) d.acked) ≡ true =
+      ap (λ (w : List Line). (length w == 0) && nat_le (closing_line d) d.acked) none ∙ ap (λ (n : ℕ). nat_le n d.acked) last
+      ∙ le-leb d.issued d.acked all in
       ap (λ s. is_closable_at s d) at ∙ ap (λ (b : Bool). is_closable b d) goes ∙ ap (λ (b : Bool). b || not d.ready) tests

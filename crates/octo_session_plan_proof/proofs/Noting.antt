@@ -4,8 +4,8 @@ use Rattle.std.proofs.lemmas.List.{append-nil}
 use Rattle.std.proofs.lemmas.Bool.{false≢true, and_parts, leb-true}
 use Rattle.job_desk.specs.Data.{Data, Line, with_script, script_lines, moment_after}
 use Rattle.job_desk.specs.Pull.{settle_at, settled}
-use Rattle.job_desk.specs.Table.{is_closable, is_closable_at}
-use Rattle.job_desk.specs.Note.{Noted, after_ending, is_over, end_at, finish, leave, hung_up, fail, ready_at, after_open, note_fact, note_step}
+use Rattle.job_desk.specs.Table.{closing_line, is_closable, is_closable_at}
+use Rattle.job_desk.specs.Note.{Noted, after_ending, is_over, end_at, finish, leave, hung_up, fail, ready_at, after_open, note_fact, note_step, with_acked}
 use Rattle.job_desk.specs.declared.state.State.{State}
 use Rattle.job_desk.specs.declared.state.State.TheVariants.{Offline, Connecting, Operational, Printing, Pausing, Paused, Cancelling, Finishing, Closing, Fault}
 use Rattle.job_desk.specs.declared.state.Point.TheVariants as point
@@ -21,7 +21,7 @@ use Rattle.octo_session_plan_proof.specs.Underway.{Standing, standing, IsOpen, I
 use Rattle.octo_session_plan_proof.specs.Underway as phase
 use Rattle.octo_session_plan_proof.specs.Progress.{after_fact}
 use Rattle.octo_session_plan_proof.proofs.Weaves.{part_self, part_of, part_after}
-use Rattle.octo_session_plan_proof.proofs.Phases.{in_plan, print_of, connecting_of, finishing_of, closing_of, impossible}
+use Rattle.octo_session_plan_proof.proofs.Phases.{none_closing, in_plan, print_of, connecting_of, finishing_of, closing_of, impossible}
 use Rattle.octo_session_plan_proof.proofs.Pulling.{settle-underway}
 use Rattle.octo_session.specs.Turn.{texts_in}
 
@@ -39,6 +39,7 @@ module _ (p : PrintData) where
       let none : d.waiting ≡ [] = no_lines d.waiting (and_parts (length d.waiting == 0) (nat_le d.print_line d.acked) t).0 in
       let all : h.sent ≡ done_lines p = sym (append-nil h.sent) ∙ ap (λ (w : List Line). h.sent ++ w) (sym none) ∙ h.parted ∙ on.are in (
         record {
+          numbered_is = h.numbered_is;
           scripts_are = h.scripts_are;
           limits_are = h.limits_are;
           file_is = h.file_is;
@@ -49,10 +50,11 @@ module _ (p : PrintData) where
           sent = h.sent;
           parted = h.parted ∙ on.are;
           woven = h.woven;
-          counted = λ below. (let c = h.counted below in record { all = c.all; print = c.print });
+          counted = λ below. (let c = h.counted below in record { all = c.all; print = c.print; last = c.last });
+          by_last = h.by_last;
           acknowledged = λ off. (let clash : Operational ≡ Offline = off in absurd (cc clash));
         },
-        (on.on.print_is, record { first = issued; is_part = part_self issued; woven = subst (λ (l : List Line). Weave issued (texts_in l)) all h.woven }),
+        (on.on.print_is, record { first = issued; is_part = part_self issued; woven = subst (λ (l : List Line). Weave p.numbered issued (texts_in l)) all h.woven }),
       )
 
   pub ends : (s : State) (d : Data) (issued : List (List ℕ)) → d.state ≡ s → IsUnderway p d issued → NotedSo issued (end_at s d)
@@ -83,6 +85,7 @@ module _ (p : PrintData) where
       let on = connecting_of p (standing d) h.lines h.phase at in
       let n = nothing_sent d issued h at in
       record {
+        numbered_is = h.numbered_is;
         scripts_are = h.scripts_are;
         limits_are = h.limits_are;
         file_is = h.file_is;
@@ -93,19 +96,22 @@ module _ (p : PrintData) where
         sent = [];
         parted = n.1;
         woven = empty;
-        counted = λ below. record { all = refl; print = omega arith };
-        acknowledged = λ off. omega arith;
+        counted = λ below. record { all = refl; print = omega arith; last = omega arith };
+        by_last = λ below. empty;
+        acknowledged = λ off. none_closing d.numbered;
       }
 
   -- the hello was acknowledged: the Connected script waits
   readies : (d : Data) (moment : ℕ) (issued : List (List ℕ)) → d.state ≡ Connecting → d.ready ≡ true → IsUnderway p d issued
-      → IsUnderway p (with_script point.Connected 0 (record d { state = Operational; poll_at = moment_after moment d.poll_ms })) issued
+      → IsUnderway p (with_script point.Connected 0
+      (record d { state = Operational; poll_at = moment_after moment d.poll_ms; probe_at = moment_after moment d.poll_ms })) issued
   readies d moment issued at is h =
       let on = connecting_of p (standing d) h.lines h.phase at in
       let n = nothing_sent d issued h at in
       let script : d.waiting ++ script_lines d.scripts point.Connected 0 ≡ connected_lines p =
       ap (λ (w : List Line). w ++ script_lines d.scripts point.Connected 0) n.1 ∙ ap (λ s. script_lines s point.Connected 0) h.scripts_are in
       record {
+        numbered_is = h.numbered_is;
         scripts_are = h.scripts_are;
         limits_are = h.limits_are;
         file_is = h.file_is;
@@ -116,7 +122,8 @@ module _ (p : PrintData) where
         sent = h.sent;
         parted = ap (λ (l : List Line). l ++ (d.waiting ++ script_lines d.scripts point.Connected 0)) n.0 ∙ script;
         woven = h.woven;
-        counted = λ below. (let c = h.counted below in record { all = c.all; print = c.print });
+        counted = λ below. (let c = h.counted below in record { all = c.all; print = c.print; last = c.last });
+        by_last = h.by_last;
         acknowledged = λ off. (let clash : Operational ≡ Offline = off in absurd (cc clash));
       }
 
@@ -138,6 +145,7 @@ module _ (p : PrintData) where
   -- the hello's acknowledgement says nothing new later on
   pub hears : (d : Data) (issued : List (List ℕ)) → IsUnderway p d issued → IsUnderway p (record d { ready = true }) issued
   hears d issued h = record {
+    numbered_is = h.numbered_is;
     scripts_are = h.scripts_are;
     limits_are = h.limits_are;
     file_is = h.file_is;
@@ -148,7 +156,8 @@ module _ (p : PrintData) where
     sent = h.sent;
     parted = h.parted;
     woven = h.woven;
-    counted = λ below. (let c = h.counted below in record { all = c.all; print = c.print });
+    counted = λ below. (let c = h.counted below in record { all = c.all; print = c.print; last = c.last });
+    by_last = h.by_last;
     acknowledged = h.acknowledged;
   }
 
@@ -178,6 +187,7 @@ module _ (p : PrintData) where
       )
   fails b d issued e h = (
     record {
+      numbered_is = h.numbered_is;
       scripts_are = h.scripts_are;
       limits_are = h.limits_are;
       file_is = h.file_is;
@@ -189,7 +199,8 @@ module _ (p : PrintData) where
       sent = h.sent;
       parted = append-nil h.sent;
       woven = h.woven;
-      counted = λ below. (let c = h.counted below in record { all = c.all; print = c.print });
+      counted = λ below. (let c = h.counted below in record { all = c.all; print = c.print; last = c.last });
+      by_last = h.by_last;
       acknowledged = λ off. (let clash : Fault ≡ Offline = off in absurd (cc clash));
     },
     failed_print b d issued e h,
@@ -210,7 +221,7 @@ module _ (p : PrintData) where
   pub record MayClose (d : Data) (lines : List Line) : Type 0 where
     pub closing : d.state ≡ Closing
     pub none : d.waiting ≡ []
-    pub all : d.issued ≤ d.acked
+    pub all : closing_line d ≤ d.acked
     pub are : lines ≡ plan_lines p
     pub active_is : d.active ≡ false
 
@@ -218,18 +229,18 @@ module _ (p : PrintData) where
   or_first true e = refl
   or_first false e = absurd (false≢true e)
 
-  waits_none : (d : Data) → (((length d.waiting == 0) && nat_le d.issued d.acked) || not true) ≡ true → (d.waiting ≡ []) × (d.issued ≤ d.acked)
+  waits_none : (d : Data) → (((length d.waiting == 0) && nat_le (closing_line d) d.acked) || not true) ≡ true → (d.waiting ≡ []) × (closing_line d ≤ d.acked)
   waits_none d t =
-      let both : ((length d.waiting == 0) && nat_le d.issued d.acked) ≡ true = or_first ((length d.waiting == 0) && nat_le d.issued d.acked) t in (
-        no_lines d.waiting (and_parts (length d.waiting == 0) (nat_le d.issued d.acked) both).0,
-        leb-true d.issued d.acked (and_parts (length d.waiting == 0) (nat_le d.issued d.acked) both).1,
+      let both : ((length d.waiting == 0) && nat_le (closing_line d) d.acked) ≡ true = or_first ((length d.waiting == 0) && nat_le (closing_line d) d.acked) t in (
+        no_lines d.waiting (and_parts (length d.waiting == 0) (nat_le (closing_line d) d.acked) both).0,
+        leb-true (closing_line d) d.acked (and_parts (length d.waiting == 0) (nat_le (closing_line d) d.acked) both).1,
       )
 
   may_close : (s : State) (d : Data) (issued : List (List ℕ)) → d.state ≡ s → is_closable_at s d ≡ true → (h : IsUnderway p d issued) → MayClose d h.lines
   may_close Closing d issued at t h =
       let on = closing_of p (standing d) h.lines h.phase at in
       let going : is_closable false d ≡ true = ap (λ (b : Bool). is_closable b d) (sym h.unstopped) ∙ t in
-      let w = waits_none d (ap (λ (b : Bool). ((length d.waiting == 0) && nat_le d.issued d.acked) || not b) (sym on.opened.ready_is) ∙ going) in
+      let w = waits_none d (ap (λ (b : Bool). ((length d.waiting == 0) && nat_le (closing_line d) d.acked) || not b) (sym on.opened.ready_is) ∙ going) in
       record { closing = at; none = w.0; all = w.1; are = on.are; active_is = on.free.active_is }
   may_close Offline d issued at t h = absurd (false≢true t)
   may_close Connecting d issued at t h = absurd (false≢true t)
@@ -245,12 +256,13 @@ module _ (p : PrintData) where
   no_ending false ending state issued e = tt
   no_ending true ending state issued e = absurd (false≢true (sym e))
 
-  closes_off : (acked : ℕ) (d : Data) (issued : List (List ℕ)) → is_closable_at d.state d ≡ true → d.acked ≤ acked → IsUnderway p d issued
-      → NotedSo issued (leave Offline outcome.Cancelled (record d { acked = acked }))
-  closes_off acked d issued t more h =
+  closes_off : (acked moment : ℕ) (d : Data) (issued : List (List ℕ)) → is_closable_at d.state d ≡ true → d.acked ≤ acked → IsUnderway p d issued
+      → NotedSo issued (leave Offline outcome.Cancelled (with_acked acked moment d))
+  closes_off acked moment d issued t more h =
       let m = may_close d.state d issued refl t h in
       let whole : h.sent ≡ plan_lines p = sym (append-nil h.sent) ∙ ap (λ (w : List Line). h.sent ++ w) (sym m.none) ∙ h.parted ∙ m.are in (
         record {
+          numbered_is = h.numbered_is;
           scripts_are = h.scripts_are;
           limits_are = h.limits_are;
           file_is = h.file_is;
@@ -261,22 +273,24 @@ module _ (p : PrintData) where
           sent = h.sent;
           parted = append-nil h.sent ∙ whole;
           woven = h.woven;
-          counted = λ below. (let c = h.counted below in record { all = c.all; print = c.print });
+          counted = λ below. (let c = h.counted below in record { all = c.all; print = c.print; last = c.last });
+          by_last = h.by_last;
           acknowledged = λ off. omega (arith, m.all, more);
         },
         no_ending d.active (record { print = d.greatest; outcome = outcome.Cancelled }) Offline issued m.active_is,
       )
 
   -- nobody stops its printer
-  closes : (acked : ℕ) (d : Data) (issued : List (List ℕ)) → is_closable_at d.state d ≡ true → d.acked ≤ acked → IsUnderway p d issued
-      → NotedSo issued (hung_up d.stopped (record d { acked = acked }))
-  closes acked d issued t more h =
-      subst (λ (b : Bool). NotedSo issued (hung_up b (record d { acked = acked }))) (sym h.unstopped) (closes_off acked d issued t more h)
+  closes : (acked moment : ℕ) (d : Data) (issued : List (List ℕ)) → is_closable_at d.state d ≡ true → d.acked ≤ acked → IsUnderway p d issued
+      → NotedSo issued (hung_up d.stopped (with_acked acked moment d))
+  closes acked moment d issued t more h =
+      subst (λ (b : Bool). NotedSo issued (hung_up b (with_acked acked moment d))) (sym h.unstopped) (closes_off acked moment d issued t more h)
 
   -- acknowledgements alone change nothing of it
-  pub acked_more : (acked : ℕ) (d : Data) (issued : List (List ℕ)) → (d.state ≡ Offline → d.acked ≤ acked) → IsUnderway p d issued
-      → IsUnderway p (record d { acked = acked }) issued
-  acked_more acked d issued more h = record {
+  pub acked_more : (acked moment : ℕ) (d : Data) (issued : List (List ℕ)) → (d.state ≡ Offline → d.acked ≤ acked) → IsUnderway p d issued
+      → IsUnderway p (with_acked acked moment d) issued
+  acked_more acked moment d issued more h = record {
+    numbered_is = h.numbered_is;
     scripts_are = h.scripts_are;
     limits_are = h.limits_are;
     file_is = h.file_is;
@@ -287,7 +301,8 @@ module _ (p : PrintData) where
     sent = h.sent;
     parted = h.parted;
     woven = h.woven;
-    counted = λ below. (let c = h.counted below in record { all = c.all; print = c.print });
+    counted = λ below. (let c = h.counted below in record { all = c.all; print = c.print; last = c.last });
+    by_last = h.by_last;
     acknowledged = λ off. (let all = h.acknowledged off in let rises = more off in omega (arith, all, rises));
   }
 
@@ -295,24 +310,24 @@ module _ (p : PrintData) where
   not_offline d acked at off = let clash : Connecting ≡ Offline = sym at ∙ off in absurd (cc clash)
 
   facts : (f : LinkFact) (acked moment : ℕ) (d : Data) (issued : List (List ℕ)) → Suits f acked d → IsUnderway p d issued
-      → NotedSo (after_fact f issued) (note_fact f moment (record d { acked = acked }))
-  facts fact.Quiet acked moment d issued s h = ends d.state (record d { acked = acked }) issued refl (acked_more acked d issued (λ off. s) h)
+      → NotedSo (after_fact f issued) (note_fact f moment (with_acked acked moment d))
+  facts fact.Quiet acked moment d issued s h = ends d.state (with_acked acked moment d) issued refl (acked_more acked moment d issued (λ off. s) h)
   facts fact.Opened acked moment d issued s h =
-      let told : Data = record d { acked = acked } in
-      ends d.state (after_open told) [] refl (opens told issued s (acked_more acked d issued (not_offline d acked s) h))
+      let told : Data = with_acked acked moment d in
+      ends d.state (after_open told) [] refl (opens told issued s (acked_more acked moment d issued (not_offline d acked s) h))
   facts fact.Ready acked moment d issued s h =
-      let heard : Data = record d { acked = acked; ready = true } in
+      let heard : Data = record (with_acked acked moment d) { ready = true } in
       let is : Data = ready_at heard.state moment heard in
       ends is.state is issued refl (ready_from heard.state moment heard issued refl refl
-      (hears (record d { acked = acked }) issued (acked_more acked d issued (λ off. s) h)))
-  facts fact.Closed acked moment d issued s h = closes acked d issued s.0 s.1 h
-  facts fact.NoPort acked moment d issued s h = fails d.active (record d { acked = acked }) issued refl (acked_more acked d issued (λ off. s) h)
+      (hears (with_acked acked moment d) issued (acked_more acked moment d issued (λ off. s) h)))
+  facts fact.Closed acked moment d issued s h = closes acked moment d issued s.0 s.1 h
+  facts fact.NoPort acked moment d issued s h = fails d.active (with_acked acked moment d) issued refl (acked_more acked moment d issued (λ off. s) h)
   facts fact.Failed acked moment d issued s h =
-      let told : Data = record d { acked = acked } in fails_after (after_ending told) issued
-      (ends told.state told issued refl (acked_more acked d issued (λ off. s) h))
+      let told : Data = with_acked acked moment d in fails_after (after_ending told) issued
+      (ends told.state told issued refl (acked_more acked moment d issued (λ off. s) h))
   facts (fact.Ended end) acked moment d issued s h =
-      let told : Data = record d { acked = acked } in fails_after (after_ending told) issued
-      (ends told.state told issued refl (acked_more acked d issued (λ off. s) h))
+      let told : Data = with_acked acked moment d in fails_after (after_ending told) issued
+      (ends told.state told issued refl (acked_more acked moment d issued (λ off. s) h))
 
   settled_so : (how : Outcome) (d : Data) (issued : List (List ℕ)) → ComesTo p how d.state issued → ComesTo p how (settled d).state issued
   settled_so outcome.Active d issued h = h
@@ -330,6 +345,6 @@ module _ (p : PrintData) where
   pub note-underway : (f : LinkFact) (acked moment : ℕ) (d : Data) (issued : List (List ℕ)) → Suits f acked d → IsUnderway p d issued
       → NotedSo (after_fact f issued) (note_step acked f moment d)
   note-underway f acked moment d issued s h =
-      let noted : Noted = note_fact f moment (record d { acked = acked }) in
+      let noted : Noted = note_fact f moment (with_acked acked moment d) in
       let so : NotedSo (after_fact f issued) noted = facts f acked moment d issued s h in
       (settle-underway p noted.1 (after_fact f issued) so.0, settled_end noted.1.state noted.0 noted.1 (after_fact f issued) so.1)

@@ -1,5 +1,5 @@
 -- What each phase says of its desk, and how one phase leads to the next.
-use Rattle.std.proofs.Common.{◌≡◌, ℕ, ◌≤◌, Bool, true, false, List, [], ◌∷◌, length, All, refl, sym, ◌∙◌, ap, subst, arith}
+use Rattle.std.proofs.Common.{◌≡◌, ℕ, ◌≤◌, Bool, true, false, cond, List, [], ◌∷◌, length, All, refl, sym, ◌∙◌, ap, subst, arith}
 use Rattle.std.proofs.lemmas.Bool.{false≢true}
 use Rattle.std.proofs.lemmas.List.Elements.{All-tail}
 use Rattle.job_desk.specs.Data.{Line}
@@ -10,6 +10,11 @@ use Rattle.octo_session.specs.Plan.{IsPart}
 use Rattle.octo_session_plan_proof.specs.Underway.{Standing, IsOpen, IsFree, IsPrinting, IsLast, Phase}
 use Rattle.octo_session_plan_proof.specs.Underway as phase
 use Rattle.octo_session_plan_proof.proofs.Weaves.{part_self, part_after, part_of, printed_in_done, done_in_plan, connected_in_plan}
+
+-- without a line none is to be acknowledged
+pub none_closing : (b : Bool) → cond b 0 0 ≤ 0
+none_closing true = omega arith
+none_closing false = omega arith
 
 -- the lines of a phase begin the plan
 pub in_plan : (p : PrintData) (s : Standing) (lines : List Line) → Phase p s lines → IsPart lines (plan_lines p)

@@ -4,7 +4,7 @@ use Rattle.std.proofs.lemmas.Bool.{and_parts, leb-true}
 use Rattle.job_desk.specs.Data.{Data, Line, commands_of, with_script, moment_after}
 use Rattle.job_desk.specs.declared.state.Point.TheVariants as point
 use Rattle.job_desk.specs.Course.{job_line}
-use Rattle.job_desk.specs.Pull.{Drawn, draw_in_order, nothing, issue, from_scripts, from_manual, from_poll, poll_is_due, from_file, draw_last, draw_at, is_issued, settle_at, settled, pull_step}
+use Rattle.job_desk.specs.Pull.{Drawn, draw_in_order, nothing, issue, from_scripts, from_manual, from_poll, poll_is_due, from_probe, from_file, draw_last, draw_at, is_issued, settle_at, settled, pull_step}
 use Rattle.job_desk.specs.declared.state.State.{State}
 use Rattle.job_desk.specs.declared.state.State.TheVariants.{Offline, Connecting, Operational, Printing, Pausing, Paused, Cancelling, Finishing, Closing, Fault}
 use Rattle.job_desk.specs.declared.state.Tag.TheVariants.{Poll}
@@ -13,8 +13,10 @@ use Rattle.octo_session_plan_proof.specs.Plan.{PrintData}
 use Rattle.octo_session_plan_proof.specs.Underway.{IsUnderway}
 use Rattle.octo_session_plan_proof.specs.Progress.{after_pull}
 use Rattle.octo_session_plan_proof.specs.Remaining.{planned_tag, IsPaced, ArePaced}
-use Rattle.octo_session_plan_proof.proofs.Pulling.{IsIssue, issue_tag, pull-underway}
-use Rattle.octo_session_plan_proof.proofs.Remaining.{waiting_planned}
+use Rattle.octo_session_plan_proof.proofs.Issues.{IsIssue, issue_tag}
+use Rattle.octo_session_plan_proof.proofs.Pulling.{pull-underway}
+use Rattle.job_desk.proofs.Probes.{no_probe}
+use Rattle.octo_session_plan_proof.proofs.Planned.{waiting_planned}
 
 settled_at : (s : State) (d : Data) → (settle_at s d).poll_at ≡ d.poll_at
 settled_at Printing d = either_at (is_issued d)
@@ -69,7 +71,7 @@ poll_tag got is =
     let same : got ≡ record { text = codes "M105"; tag = Poll } = cc is in
     ap (λ (l : Line). planned_tag l.tag) same
 
-module _ (p : PrintData) (moment : ℕ) where
+module _ (p : PrintData) (plain : p.numbered ≡ false) (moment : ℕ) where
   -- a line of the plan leaves the poll's moment
   planned_paced : (line : Line) (d e : Data) → planned_tag line.tag ≡ 1 → e.poll_at ≡ d.poll_at → e.poll_ms ≡ d.poll_ms → IsPaced moment d (issue line e)
   planned_paced line d e one at ms got is =
@@ -99,6 +101,11 @@ module _ (p : PrintData) (moment : ℕ) where
       scripts_paced d.waiting d issued (from_manual d.manual d (from_poll moment d next)) refl h
       (manual_paced d.manual d (from_poll moment d next) h.no_manual (poll_paced (poll_is_due moment d) d next refl other))
 
+  -- without numbers there is no probe
+  probe_paced : (awaited : ℕ) (d : Data) (issued : List (List ℕ)) → IsUnderway p d issued → IsPaced moment d (from_probe awaited moment d)
+  probe_paced awaited d issued h =
+      subst (λ (drawn : Drawn). IsPaced moment d drawn) (sym (no_probe awaited moment d (h.numbered_is ∙ plain))) (none_paced d)
+
   file_paced : (text : Option (List ℕ)) (d : Data) → IsPaced moment d (from_file text d)
   file_paced None d = none_paced d
   file_paced (Some text) d = planned_paced (job_line d.greatest d.cursor text) d (record d { cursor = d.cursor + 1 }) refl refl refl
@@ -110,12 +117,13 @@ module _ (p : PrintData) (moment : ℕ) where
   draw_paced Printing d issued h = talk_paced d issued (from_file (slice_get (commands_of d.file) d.cursor) d) h
       (file_paced (slice_get (commands_of d.file) d.cursor) d)
   draw_paced Closing d issued h =
-      subst (λ (b : Bool). IsPaced moment d (draw_last b d)) (sym h.unstopped) (scripts_paced d.waiting d issued (nothing d) refl h (none_paced d))
-  draw_paced Operational d issued h = talk_paced d issued (nothing d) h (none_paced d)
-  draw_paced Pausing d issued h = talk_paced d issued (nothing d) h (none_paced d)
-  draw_paced Paused d issued h = talk_paced d issued (nothing d) h (none_paced d)
-  draw_paced Cancelling d issued h = talk_paced d issued (nothing d) h (none_paced d)
-  draw_paced Finishing d issued h = talk_paced d issued (nothing d) h (none_paced d)
+      subst (λ (b : Bool). IsPaced moment d (draw_last b moment d)) (sym h.unstopped)
+      (scripts_paced d.waiting d issued (from_probe d.last_line moment d) refl h (probe_paced d.last_line d issued h))
+  draw_paced Operational d issued h = talk_paced d issued (from_probe d.issued moment d) h (probe_paced d.issued d issued h)
+  draw_paced Pausing d issued h = talk_paced d issued (from_probe d.issued moment d) h (probe_paced d.issued d issued h)
+  draw_paced Paused d issued h = talk_paced d issued (from_probe d.issued moment d) h (probe_paced d.issued d issued h)
+  draw_paced Cancelling d issued h = talk_paced d issued (from_probe d.issued moment d) h (probe_paced d.issued d issued h)
+  draw_paced Finishing d issued h = talk_paced d issued (from_probe d.issued moment d) h (probe_paced d.issued d issued h)
 
   -- a pull returns a line of the plan, or a poll whose moment has come, and the next poll's is later then
   pub pull-paced : (d : Data) (issued : List (List ℕ)) → IsUnderway p d issued → IsPaced moment d (pull_step moment d)

@@ -1,125 +1,27 @@
 -- A pull issues the plan's next text, or a poll, or nothing.
-use Rattle.std.proofs.Common.{◌≡◌, ◌⊎◌, inl, inr, ℕ, ◌+◌, ◌<◌, min, Bool, true, false, cond, nat_eq, ◌==◌, codes, List, [], ◌∷◌, ◌++◌, length, slice_get, Option, None, Some, refl, sym, ◌∙◌, ap, subst, arith, append_assoc, length-append}
+use Rattle.std.proofs.Common.{◌≡◌, ℕ, ◌+◌, ◌<◌, min, Bool, true, false, cond, nat_le, nat_lt, ◌&&◌, ◌==◌, take, codes, List, [], ◌∷◌, ◌++◌, length, slice_get, Option, None, Some, refl, sym, ◌∙◌, ap, subst, arith, append_assoc}
 use Rattle.std.proofs.lemmas.List.{append-nil}
 use Rattle.job_desk.specs.Data.{Data, Line, with_script, script_lines, commands_of, moment_after}
-use Rattle.job_desk.specs.Pull.{Drawn, draw_in_order, nothing, next_number, keep_number, issue, from_scripts, from_manual, poll_is_due, from_file, draw_last, draw_at, is_issued, settle_at, settled, pull_step}
+use Rattle.job_desk.specs.Pull.{Drawn, draw_idle, draw_in_order, nothing, issue, from_scripts, from_manual, poll_is_due, from_probe, probe_is_due, from_file, draw_last, draw_at, is_issued, settle_at, settled, pull_step}
 use Rattle.job_desk.specs.Course.{job_line}
 use Rattle.job_desk.specs.Plain.{numbered}
 use Rattle.job_desk.specs.declared.state.State.{State}
 use Rattle.job_desk.specs.declared.state.State.TheVariants.{Offline, Connecting, Operational, Printing, Pausing, Paused, Cancelling, Finishing, Closing, Fault}
 use Rattle.job_desk.specs.declared.state.Point.TheVariants as point
-use Rattle.job_desk.specs.declared.state.Tag.{Tag}
-use Rattle.job_desk.specs.declared.state.Tag.TheVariants.{Script, Job, Manual, Poll}
+use Rattle.job_desk.specs.declared.state.Tag.TheVariants.{Poll}
 use Rattle.job_desk.proofs.Noted.{no_lines}
 use Rattle.octo_session_plan_proof.specs.Plan.{PrintData, print_commands, started_lines, printed_lines, done_lines}
 use Rattle.octo_session.specs.Plan.{Weave}
 use Rattle.octo_session_plan_proof.specs.Underway.{Standing, standing, IsOpen, IsPrinting, Phase, IsCounted, IsUnderway}
 use Rattle.octo_session_plan_proof.specs.Underway as phase
 pub use Rattle.octo_session_plan_proof.specs.Progress.{after_pull}
-use Rattle.octo_session_plan_proof.proofs.Weaves.{weave_planned, weave_polled, texts_append, printed_more, printed_all, get_below}
+use Rattle.octo_session_plan_proof.proofs.Weaves.{weave_planned, weave_polled, weave_probed, texts_append, printed_more, printed_all, get_below}
+use Rattle.octo_session_plan_proof.specs.Remaining.{planned_tag}
+use Rattle.octo_session_plan_proof.proofs.Issues.{IsIssue, issue_tag, counts_on, first_all, first_same}
+use Rattle.octo_session_plan_proof.proofs.Planned.{waiting_planned}
 use Rattle.octo_session_plan_proof.proofs.Phases.{next_waits, printing_of}
 use Rattle.octo_session.specs.Turn.{texts_in}
 use Rattle.std.proofs.lemmas.Bool.{and_parts, eqb-true}
-
--- an issued line changes the desk's numbers alone
-pub record IsIssue (d e : Data) : Type 0 where
-  pub scripts : e.scripts ≡ d.scripts
-  pub limits : e.limits ≡ d.limits
-  pub file : e.file ≡ d.file
-  pub manual : e.manual ≡ d.manual
-  pub stopped : e.stopped ≡ d.stopped
-  pub same_standing : standing e ≡ standing d
-  pub poll_at : e.poll_at ≡ d.poll_at
-  pub poll_ms : e.poll_ms ≡ d.poll_ms
-  pub number : e.issued ≡ next_number d.issued
-  pub print : (e.print_line ≡ d.print_line) ⊎ (e.print_line ≡ next_number d.issued)
-
-issue_script : (b : Bool) (d : Data) → IsIssue d (cond b (record d { issued = next_number d.issued })
-    (record d { issued = next_number d.issued; print_line = next_number d.issued }))
-issue_script true d = record {
-  scripts = refl;
-  limits = refl;
-  file = refl;
-  manual = refl;
-  stopped = refl;
-  same_standing = refl;
-  poll_at = refl;
-  poll_ms = refl;
-  number = refl;
-  print = inl refl;
-}
-issue_script false d = record {
-  scripts = refl;
-  limits = refl;
-  file = refl;
-  manual = refl;
-  stopped = refl;
-  same_standing = refl;
-  poll_at = refl;
-  poll_ms = refl;
-  number = refl;
-  print = inr refl;
-}
-
-pub issue_tag : (tag : Tag) (d : Data) → IsIssue d (keep_number tag (next_number d.issued) (record d { issued = next_number d.issued }))
-issue_tag (Script at print) d = issue_script (nat_eq print 0) d
-issue_tag (Job print index) d = record {
-  scripts = refl;
-  limits = refl;
-  file = refl;
-  manual = refl;
-  stopped = refl;
-  same_standing = refl;
-  poll_at = refl;
-  poll_ms = refl;
-  number = refl;
-  print = inr refl;
-}
-issue_tag Manual d = record {
-  scripts = refl;
-  limits = refl;
-  file = refl;
-  manual = refl;
-  stopped = refl;
-  same_standing = refl;
-  poll_at = refl;
-  poll_ms = refl;
-  number = refl;
-  print = inl refl;
-}
-issue_tag Poll d = record {
-  scripts = refl;
-  limits = refl;
-  file = refl;
-  manual = refl;
-  stopped = refl;
-  same_standing = refl;
-  poll_at = refl;
-  poll_ms = refl;
-  number = refl;
-  print = inl refl;
-}
-
-pub issue_same_standing : (line : Line) (d : Data) → standing (issue line d).1 ≡ standing d
-issue_same_standing line d = (issue_tag line.tag d).same_standing
-
-pub issue_state : (line : Line) (d : Data) → (issue line d).1.state ≡ d.state
-issue_state line d = ap (λ (s : Standing). s.state) (issue_tag line.tag d).same_standing
-
-long : (issued : List (List ℕ)) (text : List ℕ) → length (issued ++ text ∷ []) ≡ length issued + 1
-long issued text = length-append issued (text ∷ [])
-
-counts_on : (d e : Data) (issued : List (List ℕ)) (text : List ℕ) → IsIssue d e → (d.issued < 18446744073709551615 → IsCounted d issued)
-    → e.issued < 18446744073709551615 → IsCounted e (issued ++ text ∷ [])
-counts_on d e issued text i before below =
-    let next : e.issued ≡ min (d.issued + 1) 18446744073709551615 = i.number in
-    let fits : d.issued < 18446744073709551615 = omega (arith, next, below) in
-    let c : IsCounted d issued = before fits in
-    let more : e.issued ≡ d.issued + 1 = omega (arith, next, below) in
-    record {
-      all = omega (arith, more, c.all, long issued text);
-      print = elim i.print [ inl same ↦ omega (arith, same, c.print, more) | inr new ↦ omega (arith, new, next) ];
-    }
 
 -- the desk's file is the print's
 pub file_commands : (p : PrintData) (d : Data) → d.file ≡ Some p.file → commands_of d.file ≡ print_commands p
@@ -139,13 +41,16 @@ module _ (p : PrintData) where
   Kept issued drawn = IsUnderway p drawn.1 (after_pull drawn.0 issued)
 
   -- a line is issued at such a desk, and the sent lines are then these
-  issues : (line : Line) (d : Data) (issued : List (List ℕ)) (sent lines : List Line) → d.scripts ≡ p.scripts → d.limits ≡ p.limits
+  issues : (line : Line) (d : Data) (issued : List (List ℕ)) (sent lines : List Line) → d.numbered ≡ p.numbered → d.scripts ≡ p.scripts
+      → d.limits ≡ p.limits
       → d.file ≡ Some p.file → d.manual ≡ [] → d.stopped ≡ false → Phase p (standing d) lines → sent ++ d.waiting ≡ lines
-      → Weave (issued ++ line.text ∷ []) (texts_in sent) → (d.issued < 18446744073709551615 → IsCounted d issued) → (d.state ≡ Offline → ⊥)
-      → Kept issued (issue line d)
-  issues line d issued sent lines scripts limits file manual goes h parted woven counted online =
+      → Weave p.numbered (issued ++ line.text ∷ []) (texts_in sent) → (d.issued < 18446744073709551615 → IsCounted d issued)
+      → ((issue line d).1.issued < 18446744073709551615 → Weave p.numbered (take (issue line d).1.last_line (issued ++ line.text ∷ [])) (texts_in sent))
+      → (d.state ≡ Offline → ⊥) → Kept issued (issue line d)
+  issues line d issued sent lines numbers scripts limits file manual goes h parted woven counted by_last online =
       let i : IsIssue d (issue line d).1 = issue_tag line.tag d in
       record {
+        numbered_is = i.numbered ∙ numbers;
         scripts_are = i.scripts ∙ scripts;
         limits_are = i.limits ∙ limits;
         file_is = i.file ∙ file;
@@ -157,8 +62,26 @@ module _ (p : PrintData) where
         parted = ap (λ (s : Standing). sent ++ s.waiting) i.same_standing ∙ parted;
         woven = woven;
         counted = counts_on d (issue line d).1 issued line.text i counted;
+        by_last = by_last;
         acknowledged = λ off. absurd (online (sym (ap (λ (s : Standing). s.state) i.same_standing) ∙ off));
       }
+
+  -- of a line of the plan
+  by_planned : (line : Line) (d : Data) (issued : List (List ℕ)) (sent : List Line) → planned_tag line.tag ≡ 1
+      → (d.issued < 18446744073709551615 → IsCounted d issued) → Weave p.numbered (issued ++ line.text ∷ []) (texts_in sent)
+      → (issue line d).1.issued < 18446744073709551615 → Weave p.numbered (take (issue line d).1.last_line (issued ++ line.text ∷ [])) (texts_in sent)
+  by_planned line d issued sent one counted woven below =
+      subst (λ (l : List (List ℕ)). Weave p.numbered l (texts_in sent)) (sym (first_all line d issued one counted below)) woven
+
+  -- of a poll
+  by_poll : (text : List ℕ) (d : Data) (issued : List (List ℕ)) (sent : List Line) → (d.issued < 18446744073709551615 → IsCounted d issued)
+      → (d.issued < 18446744073709551615 → Weave p.numbered (take d.last_line issued) (texts_in sent))
+      → (issue (record { text = text; tag = Poll }) d).1.issued < 18446744073709551615
+      → Weave p.numbered (take d.last_line (issued ++ text ∷ [])) (texts_in sent)
+  by_poll text d issued sent counted before below =
+      let next : (issue (record { text = text; tag = Poll }) d).1.issued ≡ min (d.issued + 1) 18446744073709551615 = (issue_tag Poll d).number in
+      let fits : d.issued < 18446744073709551615 = omega (arith, next, below) in
+      subst (λ (l : List (List ℕ)). Weave p.numbered l (texts_in sent)) (sym (first_same text d issued counted below)) (before fits)
 
   scripts_first : (w : List Line) (d : Data) (next : Drawn) (issued : List (List ℕ)) → d.waiting ≡ w → (d.state ≡ Offline → ⊥)
       → IsUnderway p d issued → (d.waiting ≡ [] → Kept issued next) → Kept issued (from_scripts w d next)
@@ -166,10 +89,15 @@ module _ (p : PrintData) where
   scripts_first (line ∷ rest) d next issued e online h others =
       let split : (h.sent ++ line ∷ []) ++ rest ≡ h.lines = append_assoc h.sent (line ∷ []) rest ∙ ap (λ (w : List Line). h.sent ++ w) (sym e) ∙ h.parted in
       let more : texts_in (h.sent ++ line ∷ []) ≡ texts_in h.sent ++ line.text ∷ [] = texts_append h.sent (line ∷ []) in
-      issues line (record d { waiting = rest }) issued (h.sent ++ line ∷ []) h.lines h.scripts_are h.limits_are h.file_is h.no_manual h.unstopped
-      (next_waits p (standing d) h.lines line rest e h.phase) split
-      (subst (λ part. Weave (issued ++ line.text ∷ []) part) (sym more) (weave_planned issued (texts_in h.sent) line.text h.woven))
-      (λ below. (let c = h.counted below in record { all = c.all; print = c.print })) online
+      let now : Data = record d { waiting = rest } in
+      let counted : now.issued < 18446744073709551615 → IsCounted now issued =
+      λ below. (let c = h.counted below in record { all = c.all; print = c.print; last = c.last }) in
+      let woven : Weave p.numbered (issued ++ line.text ∷ []) (texts_in (h.sent ++ line ∷ [])) =
+      subst (λ part. Weave p.numbered (issued ++ line.text ∷ []) part) (sym more)
+      (weave_planned p.numbered issued (texts_in h.sent) line.text h.woven) in
+      issues line now issued (h.sent ++ line ∷ []) h.lines h.numbered_is h.scripts_are h.limits_are h.file_is h.no_manual h.unstopped
+      (next_waits p (standing d) h.lines line rest e h.phase) split woven counted
+      (by_planned line now issued (h.sent ++ line ∷ []) (waiting_planned p d issued line rest h e) counted woven) online
 
   no_manual_line : (m : List (List ℕ)) (d : Data) (next : Drawn) (issued : List (List ℕ)) → m ≡ [] → Kept issued next → Kept issued (from_manual m d next)
   no_manual_line [] d next issued e h = h
@@ -179,16 +107,40 @@ module _ (p : PrintData) where
       → Kept issued (cond b (issue (record { text = codes "M105"; tag = Poll }) (record d { poll_at = at })) next)
   polls false at d next issued online h other = other
   polls true at d next issued online h other =
-      issues (record { text = codes "M105"; tag = Poll })
-      (record d { poll_at = at }) issued h.sent h.lines h.scripts_are h.limits_are h.file_is h.no_manual h.unstopped h.phase h.parted
-      (weave_polled issued (texts_in h.sent) h.woven)
-      (λ below. (let c = h.counted below in record { all = c.all; print = c.print })) online
+      let now : Data = record d { poll_at = at } in
+      let counted : now.issued < 18446744073709551615 → IsCounted now issued =
+      λ below. (let c = h.counted below in record { all = c.all; print = c.print; last = c.last }) in
+      issues (record { text = codes "M105"; tag = Poll }) now issued h.sent h.lines h.numbered_is h.scripts_are h.limits_are h.file_is h.no_manual h.unstopped
+      h.phase h.parted (weave_polled p.numbered issued (texts_in h.sent) h.woven) counted
+      (by_poll (codes "M105") now issued h.sent counted h.by_last) online
+
+  -- a probe comes only if `ok`s have numbers
+  probes_if : (b : Bool) (awaited moment : ℕ) (d : Data) (issued : List (List ℕ)) → probe_is_due awaited moment d ≡ b → (d.state ≡ Offline → ⊥)
+      → IsUnderway p d issued
+      → Kept issued (cond b (issue (record { text = codes "M400"; tag = Poll }) (record d { probe_at = moment_after moment d.poll_ms })) (nothing d))
+  probes_if false awaited moment d issued is online h = h
+  probes_if true awaited moment d issued is online h =
+      let now : Data = record d { probe_at = moment_after moment d.poll_ms } in
+      let on : p.numbered ≡ true = sym h.numbered_is ∙ (and_parts d.numbered (nat_le d.probe_at moment && nat_lt d.acked awaited) is).0 in
+      let counted : now.issued < 18446744073709551615 → IsCounted now issued =
+      λ below. (let c = h.counted below in record { all = c.all; print = c.print; last = c.last }) in
+      issues (record { text = codes "M400"; tag = Poll }) now issued h.sent h.lines h.numbered_is h.scripts_are h.limits_are h.file_is h.no_manual h.unstopped
+      h.phase h.parted (weave_probed p.numbered issued (texts_in h.sent) on h.woven) counted
+      (by_poll (codes "M400") now issued h.sent counted h.by_last) online
+
+  probes : (awaited moment : ℕ) (d : Data) (issued : List (List ℕ)) → (d.state ≡ Offline → ⊥) → IsUnderway p d issued
+      → Kept issued (from_probe awaited moment d)
+  probes awaited moment d issued online h = probes_if (probe_is_due awaited moment d) awaited moment d issued refl online h
 
   talks : (moment : ℕ) (d : Data) (next : Drawn) (issued : List (List ℕ)) → (d.state ≡ Offline → ⊥) → IsUnderway p d issued
       → (d.waiting ≡ [] → Kept issued next) → Kept issued (draw_in_order moment d next)
   talks moment d next issued online h other =
       scripts_first d.waiting d _ issued refl online h (λ none. no_manual_line d.manual d _ issued h.no_manual
       (polls (poll_is_due moment d) (moment_after moment d.poll_ms) d next issued online h (other none)))
+
+  -- scripts, polls and probes
+  idles : (moment : ℕ) (d : Data) (issued : List (List ℕ)) → (d.state ≡ Offline → ⊥) → IsUnderway p d issued → Kept issued (draw_idle moment d)
+  idles moment d issued online h = talks moment d (from_probe d.issued moment d) issued online h (λ none. probes d.issued moment d issued online h)
 
   -- the next file command
   commands_next : (text : Option (List ℕ)) (d : Data) (issued : List (List ℕ)) → slice_get (commands_of d.file) d.cursor ≡ text → d.state ≡ Printing
@@ -205,12 +157,16 @@ module _ (p : PrintData) where
       ap (λ (w : List Line). (h.sent ++ line ∷ []) ++ w) none ∙ append-nil (h.sent ++ line ∷ []) ∙ ap (λ (l : List Line). l ++ line ∷ []) before
       ∙ ap (λ (l : Line). printed_lines p d.cursor ++ l ∷ []) one ∙ sym (printed_more p d.cursor text there) in
       let more : texts_in (h.sent ++ line ∷ []) ≡ texts_in h.sent ++ text ∷ [] = texts_append h.sent (line ∷ []) in
-      issues line (record d { cursor = d.cursor + 1 }) issued (h.sent ++ line ∷ [])
-      (printed_lines p (d.cursor + 1)) h.scripts_are h.limits_are h.file_is h.no_manual h.unstopped
+      let now : Data = record d { cursor = d.cursor + 1 } in
+      let counted : now.issued < 18446744073709551615 → IsCounted now issued =
+      λ below. (let c = h.counted below in record { all = c.all; print = c.print; last = c.last }) in
+      let woven : Weave p.numbered (issued ++ text ∷ []) (texts_in (h.sent ++ line ∷ [])) =
+      subst (λ part. Weave p.numbered (issued ++ text ∷ []) part) (sym more) (weave_planned p.numbered issued (texts_in h.sent) text h.woven) in
+      issues line now issued (h.sent ++ line ∷ [])
+      (printed_lines p (d.cursor + 1)) h.numbered_is h.scripts_are h.limits_are h.file_is h.no_manual h.unstopped
       (phase.printing (record { its_state = on.opened.its_state; ready_is = on.opened.ready_is })
       (record { print_is = on.on.print_is; active_is = on.on.active_is }) (get_below (print_commands p) d.cursor text there))
-      after (subst (λ part. Weave (issued ++ text ∷ []) part) (sym more) (weave_planned issued (texts_in h.sent) text h.woven))
-      (λ below. (let c = h.counted below in record { all = c.all; print = c.print }))
+      after woven counted (by_planned line now issued (h.sent ++ line ∷ []) refl counted woven)
       (λ off. (let clash : Printing ≡ Offline = sym at ∙ off in absurd (cc clash)))
 
   pub draws : (s : State) (moment : ℕ) (d : Data) (issued : List (List ℕ)) → d.state ≡ s → IsUnderway p d issued → Kept issued (draw_at s moment d)
@@ -221,18 +177,15 @@ module _ (p : PrintData) where
       talks moment d (from_file (slice_get (commands_of d.file) d.cursor) d) issued
       (λ off. (let clash : Printing ≡ Offline = sym at ∙ off in absurd (cc clash))) h
       (commands_next (slice_get (commands_of d.file) d.cursor) d issued refl at h)
-  draws Closing moment d issued at h = subst (λ (b : Bool). Kept issued (draw_last b d)) (sym h.unstopped) (scripts_first d.waiting d (nothing d) issued refl
-      (λ off. (let clash : Closing ≡ Offline = sym at ∙ off in absurd (cc clash))) h (λ none. h))
-  draws Operational moment d issued at h = talks moment d (nothing d) issued
-      (λ off. (let clash : Operational ≡ Offline = sym at ∙ off in absurd (cc clash))) h (λ none. h)
-  draws Pausing moment d issued at h = talks moment d (nothing d) issued
-      (λ off. (let clash : Pausing ≡ Offline = sym at ∙ off in absurd (cc clash))) h (λ none. h)
-  draws Paused moment d issued at h = talks moment d (nothing d) issued (λ off. (let clash : Paused ≡ Offline = sym at ∙ off in absurd (cc clash))) h
-      (λ none. h)
-  draws Cancelling moment d issued at h = talks moment d (nothing d) issued
-      (λ off. (let clash : Cancelling ≡ Offline = sym at ∙ off in absurd (cc clash))) h (λ none. h)
-  draws Finishing moment d issued at h = talks moment d (nothing d) issued
-      (λ off. (let clash : Finishing ≡ Offline = sym at ∙ off in absurd (cc clash))) h (λ none. h)
+  draws Closing moment d issued at h =
+      let online : d.state ≡ Offline → ⊥ = λ off. (let clash : Closing ≡ Offline = sym at ∙ off in absurd (cc clash)) in
+      subst (λ (b : Bool). Kept issued (draw_last b moment d)) (sym h.unstopped)
+      (scripts_first d.waiting d (from_probe d.last_line moment d) issued refl online h (λ none. probes d.last_line moment d issued online h))
+  draws Operational moment d issued at h = idles moment d issued (λ off. (let clash : Operational ≡ Offline = sym at ∙ off in absurd (cc clash))) h
+  draws Pausing moment d issued at h = idles moment d issued (λ off. (let clash : Pausing ≡ Offline = sym at ∙ off in absurd (cc clash))) h
+  draws Paused moment d issued at h = idles moment d issued (λ off. (let clash : Paused ≡ Offline = sym at ∙ off in absurd (cc clash))) h
+  draws Cancelling moment d issued at h = idles moment d issued (λ off. (let clash : Cancelling ≡ Offline = sym at ∙ off in absurd (cc clash))) h
+  draws Finishing moment d issued at h = idles moment d issued (λ off. (let clash : Finishing ≡ Offline = sym at ∙ off in absurd (cc clash))) h
 
   settles_to : (b : Bool) (d : Data) (issued : List (List ℕ)) → is_issued d ≡ b → d.state ≡ Printing → IsUnderway p d issued
       → IsUnderway p (cond b (with_script point.Done d.greatest (record d { state = Finishing })) d) issued
@@ -248,6 +201,7 @@ module _ (p : PrintData) where
       ap (λ (w : List Line). w ++ script_lines d.scripts point.Done d.greatest) none ∙ ap (λ s. script_lines s point.Done d.greatest) h.scripts_are
       ∙ ap (λ (k : ℕ). script_lines p.scripts point.Done k) on.on.print_is in
       record {
+        numbered_is = h.numbered_is;
         scripts_are = h.scripts_are;
         limits_are = h.limits_are;
         file_is = h.file_is;
@@ -259,7 +213,8 @@ module _ (p : PrintData) where
         sent = h.sent;
         parted = ap (λ (w : List Line). h.sent ++ w) script ∙ ap (λ (l : List Line). l ++ script_lines p.scripts point.Done 1) before;
         woven = h.woven;
-        counted = λ below. (let c = h.counted below in record { all = c.all; print = c.print });
+        counted = λ below. (let c = h.counted below in record { all = c.all; print = c.print; last = c.last });
+        by_last = h.by_last;
         acknowledged = λ off. (let clash : Finishing ≡ Offline = off in absurd (cc clash));
       }
 

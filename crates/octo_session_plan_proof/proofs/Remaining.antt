@@ -1,69 +1,29 @@
 -- A pull issues one of the remaining lines of the plan, or a poll, or nothing is left to issue in its phase.
-use Rattle.std.proofs.Common.{◌≡◌, ℕ, suc, ◌+◌, ◌-◌, ◌≤◌, Bool, true, false, cond, codes, List, [], ◌∷◌, ◌++◌, length, slice_get, All, Option, None, Some, refl, sym, ◌∙◌, ap, subst, arith, append_assoc, length-append}
+use Rattle.std.proofs.Common.{◌≡◌, ℕ, suc, ◌+◌, ◌-◌, ◌≤◌, Bool, true, false, cond, codes, List, [], ◌∷◌, ◌++◌, length, slice_get, Option, None, Some, refl, sym, ◌∙◌, ap, subst, arith, length-append}
 use Rattle.std.proofs.lemmas.List.{length-map}
-use Rattle.std.proofs.lemmas.List.Elements.{All-append, All-cons, All-head, All-tail}
 use Rattle.std.proofs.lemmas.Bool.{false≢true}
-use Rattle.job_desk.specs.Data.{Data, Line, ScriptTexts, tagged, script_lines, commands_of, with_script, moment_after}
+use Rattle.job_desk.specs.Data.{Data, Line, ScriptTexts, script_lines, commands_of, with_script, moment_after}
 use Rattle.job_desk.specs.Course.{job_line}
-use Rattle.job_desk.specs.Plain.{numbered}
 use Rattle.job_desk.specs.Table.{printing, disconnect_at}
-use Rattle.job_desk.specs.Pull.{Drawn, draw_in_order, nothing, issue, from_scripts, from_manual, from_poll, poll_is_due, from_file, draw_last, draw_at, is_issued, settle_at, settled, pull_step}
-use Rattle.job_desk.specs.Note.{end_at, is_over, finish, after_open, ready_at, note_step}
+use Rattle.job_desk.specs.Pull.{Drawn, draw_in_order, nothing, issue, from_scripts, from_manual, from_poll, poll_is_due, from_probe, probe_is_due, from_file, draw_last, draw_at, is_issued, settle_at, settled, pull_step}
+use Rattle.job_desk.specs.Note.{end_at, is_over, finish, after_open, ready_at, note_step, with_acked}
 use Rattle.job_desk.specs.declared.state.State.{State}
 use Rattle.job_desk.specs.declared.state.State.TheVariants.{Offline, Connecting, Operational, Printing, Pausing, Paused, Cancelling, Finishing, Closing, Fault}
-use Rattle.job_desk.specs.declared.state.Point.{Point}
 use Rattle.job_desk.specs.declared.state.Point.TheVariants as point
-use Rattle.job_desk.specs.declared.state.Tag.TheVariants.{Script, Poll}
+use Rattle.job_desk.specs.declared.state.Tag.TheVariants.{Poll}
 use Rattle.job_desk.specs.declared.link_fact.LinkFact.TheVariants as fact
 use Rattle.print_queue.specs.declared.ending.Outcome.TheVariants as outcome
-use Rattle.octo_session_plan_proof.specs.Plan.{PrintData, print_commands, connected_lines, started_lines, done_lines, plan_lines}
-use Rattle.octo_session.specs.Plan.{plan, IsPart}
+use Rattle.octo_session_plan_proof.specs.Plan.{PrintData, print_commands}
+use Rattle.octo_session.specs.Plan.{plan}
 use Rattle.octo_session_plan_proof.specs.Underway.{standing, IsUnderway, Suits}
 use Rattle.octo_session_plan_proof.specs.Progress.{after_pull}
 use Rattle.octo_session_plan_proof.specs.Remaining.{remaining_at, remaining, is_giving, planned_tag, planned_in}
 use Rattle.octo_session_plan_proof.proofs.Weaves.{get_below}
-use Rattle.octo_session_plan_proof.proofs.Phases.{in_plan, finishing_of, connecting_of, impossible}
-use Rattle.octo_session_plan_proof.proofs.Pulling.{issue_same_standing, file_commands, issued_all, draws}
+use Rattle.octo_session_plan_proof.proofs.Planned.{waiting_planned}
+use Rattle.octo_session_plan_proof.proofs.Phases.{finishing_of, connecting_of, impossible}
+use Rattle.octo_session_plan_proof.proofs.Issues.{issue_same_standing}
+use Rattle.octo_session_plan_proof.proofs.Pulling.{file_commands, issued_all, draws}
 use Rattle.octo_session_plan_proof.proofs.Noting.{acked_more, ends, opens, hears, ready_from, nothing_sent, not_offline}
-
--- The plan's lines aren't polls.
-
-abbrev IsPlanned : Line → Type 0
-IsPlanned line = planned_tag line.tag ≡ 1
-
-all_script : (at : Point) (print : ℕ) (texts : List (List ℕ)) → All IsPlanned (tagged (Script at print) texts)
-all_script at print [] = λ k d below. (let none : ⊥ = omega (arith, below) in absurd none)
-all_script at print (text ∷ texts) = All-cons IsPlanned (record { text = text; tag = Script at print }) (tagged (Script at print) texts) refl
-    (all_script at print texts)
-
-all_commands : (index : ℕ) (texts : List (List ℕ)) → All IsPlanned (numbered 1 index texts)
-all_commands index [] = λ k d below. (let none : ⊥ = omega (arith, below) in absurd none)
-all_commands index (text ∷ texts) = All-cons IsPlanned (job_line 1 index text) (numbered 1 (index + 1) texts) refl (all_commands (index + 1) texts)
-
-all_planned : (p : PrintData) → All IsPlanned (plan_lines p)
-all_planned p =
-    let s : ScriptTexts = p.scripts in
-    let started : All IsPlanned (started_lines p) = All-append IsPlanned (connected_lines p) (script_lines s point.Started 1)
-    (all_script point.Connected 0 s.connected) (all_script point.Started 1 s.started) in
-    let printed : All IsPlanned (started_lines p ++ numbered 1 0 (print_commands p)) =
-    All-append IsPlanned (started_lines p) (numbered 1 0 (print_commands p)) started (all_commands 0 (print_commands p)) in
-    let done : All IsPlanned (done_lines p) = All-append IsPlanned (started_lines p ++ numbered 1 0 (print_commands p))
-    (script_lines s point.Done 1) printed (all_script point.Done 1 s.done) in
-    All-append IsPlanned (done_lines p) (script_lines s point.Disconnect 0) done (all_script point.Disconnect 0 s.disconnect)
-
--- a line in the middle of such lines is one
-middle : (xs : List Line) (line : Line) (ys : List Line) → All IsPlanned (xs ++ line ∷ ys) → IsPlanned line
-middle [] line ys all = All-head IsPlanned line ys all
-middle (x ∷ xs) line ys all = middle xs line ys (All-tail IsPlanned x (xs ++ line ∷ ys) all)
-
-pub waiting_planned : (p : PrintData) (d : Data) (issued : List (List ℕ)) (line : Line) (rest : List Line) → IsUnderway p d issued
-    → d.waiting ≡ line ∷ rest → IsPlanned line
-waiting_planned p d issued line rest h e =
-    let part : IsPart h.lines (plan_lines p) = in_plan p (standing d) h.lines h.phase in
-    let whole : h.sent ++ line ∷ (rest ++ part.rest) ≡ plan_lines p =
-    sym (append_assoc h.sent (line ∷ rest) part.rest) ∙ ap (λ (w : List Line). h.sent ++ w ++ part.rest) (sym e)
-    ∙ ap (λ (l : List Line). l ++ part.rest) h.parted ∙ part.joined in
-    middle h.sent line (rest ++ part.rest) (subst (λ (l : List Line). All IsPlanned l) (sym whole) (all_planned p))
 
 -- How the count falls.
 
@@ -112,6 +72,16 @@ module _ (p : PrintData) where
   none_falls : (d : Data) → Falls p d (nothing d)
   none_falls d = omega arith
 
+  probe_falls : (b : Bool) (at : ℕ) (d : Data) → Falls p d (cond b (issue (record { text = codes "M400"; tag = Poll }) (record d { probe_at = at })) (nothing d))
+  probe_falls false at d = none_falls d
+  probe_falls true at d =
+      let same_standing : remaining p (standing (issue (record { text = codes "M400"; tag = Poll }) (record d { probe_at = at })).1) ≡ remaining p
+      (standing d) = ap (remaining p) (issue_same_standing (record { text = codes "M400"; tag = Poll }) (record d { probe_at = at })) in
+      omega (arith, same_standing)
+
+  probes_fall : (awaited moment : ℕ) (d : Data) → Falls p d (from_probe awaited moment d)
+  probes_fall awaited moment d = probe_falls (probe_is_due awaited moment d) (moment_after moment d.poll_ms) d
+
   talk_falls : (moment : ℕ) (d : Data) (issued : List (List ℕ)) (next : Drawn) → is_giving d.state ≡ true → IsUnderway p d issued
       → (d.waiting ≡ [] → Falls p d next) → Falls p d (draw_in_order moment d next)
   talk_falls moment d issued next gives h others =
@@ -138,13 +108,15 @@ module _ (p : PrintData) where
       omega (arith, same_standing, after, before, below)
 
   draw_falls : (s : State) (moment : ℕ) (d : Data) (issued : List (List ℕ)) → d.state ≡ s → IsUnderway p d issued → Falls p d (draw_at s moment d)
-  draw_falls Operational moment d issued at h = talk_falls moment d issued (nothing d) (ap is_giving at) h (λ none. none_falls d)
+  draw_falls Operational moment d issued at h =
+      talk_falls moment d issued (from_probe d.issued moment d) (ap is_giving at) h (λ none. probes_fall d.issued moment d)
   draw_falls Printing moment d issued at h = talk_falls moment d issued (from_file (slice_get (commands_of d.file) d.cursor) d) (ap is_giving at) h
       (λ none. command_falls (slice_get (commands_of d.file) d.cursor) d issued refl at h)
-  draw_falls Finishing moment d issued at h = talk_falls moment d issued (nothing d) (ap is_giving at) h (λ none. none_falls d)
+  draw_falls Finishing moment d issued at h =
+      talk_falls moment d issued (from_probe d.issued moment d) (ap is_giving at) h (λ none. probes_fall d.issued moment d)
   draw_falls Closing moment d issued at h =
-      subst (λ (b : Bool). Falls p d (draw_last b d)) (sym h.unstopped)
-      (scripts_fall d.waiting d issued (nothing d) refl (ap is_giving at) h (λ none. none_falls d))
+      subst (λ (b : Bool). Falls p d (draw_last b moment d)) (sym h.unstopped)
+      (scripts_fall d.waiting d issued (from_probe d.last_line moment d) refl (ap is_giving at) h (λ none. probes_fall d.last_line moment d))
   draw_falls Pausing moment d issued at h = impossible _ p (standing d) h.lines Pausing h.phase at refl
   draw_falls Paused moment d issued at h = impossible _ p (standing d) h.lines Paused h.phase at refl
   draw_falls Cancelling moment d issued at h = impossible _ p (standing d) h.lines Cancelling h.phase at refl
@@ -258,20 +230,20 @@ module _ (p : PrintData) where
   -- notes without a failure leave the count
   pub quiet-remaining : (acked moment : ℕ) (d : Data) (issued : List (List ℕ)) → Suits fact.Quiet acked d → IsUnderway p d issued
       → remaining p (standing (note_step acked fact.Quiet moment d).1) ≡ remaining p (standing d)
-  quiet-remaining acked moment d issued s h = ended_same (record d { acked = acked }) issued (acked_more p acked d issued (λ off. s) h)
+  quiet-remaining acked moment d issued s h = ended_same (with_acked acked moment d) issued (acked_more p acked moment d issued (λ off. s) h)
 
   pub opened-remaining : (acked moment : ℕ) (d : Data) (issued : List (List ℕ)) → Suits fact.Opened acked d → IsUnderway p d issued
       → remaining p (standing (note_step acked fact.Opened moment d).1) ≡ remaining p (standing d)
   opened-remaining acked moment d issued s h =
-      let told : Data = record d { acked = acked } in
-      ended_same (after_open told) [] (opens p told issued s (acked_more p acked d issued (not_offline p d acked s) h))
+      let told : Data = with_acked acked moment d in
+      ended_same (after_open told) [] (opens p told issued s (acked_more p acked moment d issued (not_offline p d acked s) h))
 
   pub ready-remaining : (acked moment : ℕ) (d : Data) (issued : List (List ℕ)) → Suits fact.Ready acked d → IsUnderway p d issued
       → remaining p (standing (note_step acked fact.Ready moment d).1) ≡ remaining p (standing d)
   ready-remaining acked moment d issued s h =
-      let heard : Data = record d { acked = acked; ready = true } in
+      let heard : Data = record (with_acked acked moment d) { ready = true } in
       let is : Data = ready_at heard.state moment heard in
-      let now : IsUnderway p heard issued = hears p (record d { acked = acked }) issued (acked_more p acked d issued (λ off. s) h) in
+      let now : IsUnderway p heard issued = hears p (with_acked acked moment d) issued (acked_more p acked moment d issued (λ off. s) h) in
       ended_same is issued (ready_from p heard.state moment heard issued refl refl now) ∙ ready_same heard.state moment heard issued refl now
 
   -- and so do the print's calls

@@ -35,6 +35,6 @@ module _ (p : PrintData) (cool : first_hot_of p.limits p.file.job.commands ≡ N
   }
 
 pub every_print : EveryPrintFollowsItsPlan
-every_print scripts limits poll_ms port file steps cool may =
-    let p : PrintData = record { scripts = scripts; limits = limits; file = file } in
-    follows p cool _ (all-underway p cool steps _ may (new_underway scripts limits poll_ms port file))
+every_print scripts limits poll_ms numbered port file steps cool may =
+    let p : PrintData = record { numbered = numbered; scripts = scripts; limits = limits; file = file } in
+    follows p cool _ (all-underway p cool steps _ may (new_underway scripts limits poll_ms numbered port file))

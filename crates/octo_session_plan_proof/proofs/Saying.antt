@@ -43,11 +43,11 @@ early_after moment limit acked issued some small = by_all (acked == issued)
     by_all false = past
 
 -- the `ok` of the next line is heard
-ok_heard_so : (moment : ℕ) (bytes : List ℕ) (s : SenderData) → s.ended ≡ None → s.swallow ≡ false → s.ready ≡ true → s.acked < s.issued →
+ok_heard_so : (moment : ℕ) (bytes : List ℕ) (s : SenderData) → s.numbered ≡ false → s.ended ≡ None → s.swallow ≡ false → s.ready ≡ true → s.acked < s.issued →
     IsRunReply bytes (wire_number (suc s.acked)) → hear_step (kind_of bytes) moment s ≡ acknowledged moment s
-ok_heard_so moment bytes s running awaiting ready some r =
+ok_heard_so moment bytes s counts running awaiting ready some r =
     hear_as bytes (ok_heard (named_by r.named (wire_number (suc s.acked)))) moment s running r.heard
-    ∙ ok_by false true (named_by r.named (wire_number (suc s.acked))) moment s awaiting ready
+    ∙ ok_by false true (named_by r.named (wire_number (suc s.acked))) moment s counts awaiting ready
     ∙ named_right r.named (suc s.acked) moment s refl some
 
 -- the reply that was heard, if something was unacknowledged
@@ -75,7 +75,7 @@ heard_saying moment bytes s w added i spoken some few is prompt = by_held s.held
         let same : h.reply ≡ is.reply = head_of h.reply is.reply [] is.rest (sym h.front ∙ ap (λ (es : List WorldEvent). (world_from w es).down) first ∙ is.front) in
         let R : List ℕ → Type 0 = λ b. IsRunReply b (wire_number (suc s.acked)) in
         let heard : IsRunReply bytes (wire_number (suc s.acked)) = subst R (same ∙ sym is.whole) h.heard in
-        let answer : hear_step (kind_of bytes) moment s ≡ acknowledged moment s = ok_heard_so moment bytes s i.running i.awaiting i.ready_is some heard in
+        let answer : hear_step (kind_of bytes) moment s ≡ acknowledged moment s = ok_heard_so moment bytes s i.counts i.running i.awaiting i.ready_is some heard in
         let S : SenderData → Type 0 = λ t. IsSound t in
         let behind : drop 1 s.held ≡ texts = ap (drop 1) holds in
         let W : List WorldEvent → Type 0 = λ es. IsInStep (suc (suc s.acked)) h.there h.coming (world_from w es) in
@@ -87,6 +87,7 @@ heard_saying moment bytes s w added i spoken some few is prompt = by_held s.held
           is = answer;
           saying = record {
             ready_is = i.ready_is;
+            counts = i.counts;
             awaiting = i.awaiting;
             running = unended s.acked s.issued some few;
             sound = subst S answer (hears_sound (kind_of bytes) moment s i.sound);
@@ -125,6 +126,7 @@ each_push (x ∷ xs) y fits fit = (fits.0, each_push xs y fits.1 fit)
 pub issue_saying : (text : List ℕ) (s : SenderData) (w : WorldData) → 0 < last_room_of s → IsFit text → IsReadySession s w → IsReadySession (push_step text s) w
 issue_saying text s w room fit i = record {
   ready_is = i.ready_is;
+  counts = i.counts;
   awaiting = i.awaiting;
   running = i.running;
   sound = issues_sound text s room i.sound;
@@ -185,6 +187,7 @@ give_saying moment s w added some after_giving prompt i =
     let printer = subst N (sym went.printer) (st.queue, st.next, st.some, st.few) in
     subst S (sym after) (record {
       ready_is = i.ready_is;
+      counts = i.counts;
       awaiting = i.awaiting;
       running = i.running;
       sound = sound;

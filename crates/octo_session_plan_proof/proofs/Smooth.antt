@@ -1,22 +1,17 @@
 -- How a print over such a link and clock goes on from one turn to the next.
-use Rattle.std.proofs.Common.{◌≡◌, ℕ, ◌+◌, ◌-◌, ◌<◌, ◌≤◌, true, List, refl, sym, ◌∙◌, ap, subst, arith}
+use Rattle.std.proofs.Common.{◌≡◌, ℕ, ◌+◌, ◌-◌, ◌<◌, ◌≤◌, List, refl, sym, ◌∙◌, ap, subst, arith}
 use Rattle.std.specs.Prelude.{Option, None, Some, IfSome, max}
 use Rattle.std.proofs.lemmas.Option.{same_Some}
-use Rattle.std.proofs.lemmas.Grind.{common_steps}
 use Rattle.octo_outside.specs.Traits.{NotBefore}
 use Rattle.octo_outside.proofs.Recorded.{steady_before}
 use Rattle.job_desk.specs.Data.{moment_after}
-use Rattle.job_desk.specs.declared.state.State.{State}
-use Rattle.job_desk.specs.declared.state.State.TheVariants.{Offline, Connecting, Operational, Printing, Pausing, Paused, Cancelling, Finishing, Closing, Fault}
 use Rattle.printer_model.specs.declared.event.WorldEvent.{WorldEvent}
 use Rattle.printer_link.specs.Link.{LinkKind}
-use Rattle.octo_session.specs.Data.{SessionData, doing, is_connecting}
-use Rattle.octo_session.specs.declared.found.Doing.TheVariants.{Dialling}
+use Rattle.octo_session.specs.Data.{SessionData}
 use Rattle.octo_session_plan_proof.specs.Plan.{PrintData}
 use Rattle.octo_session_plan_proof.specs.OnWay.{plan_length, IsOnWay}
 use Rattle.octo_session.specs.Smooth.{IsUnsaturated, IsSmooth}
 use Rattle.octo_session_plan_proof.proofs.Leads.{turn_left}
-use Rattle.octo_session.proofs.Choosing.{dials_at}
 
 -- the next poll is later than the moment
 pub poll_later : (moment poll_ms : ℕ) → moment + poll_ms ≤ 18446744073709551615 → 1 ≤ poll_ms → moment < moment_after moment poll_ms

@@ -2,15 +2,15 @@
 use Rattle.std.proofs.Common.{◌≡◌, ℕ, Bool, true, false, cond, codes, List, [], ◌∷◌, Option, None, Some, refl, sym, ◌∙◌, ap}
 use Rattle.job_desk.specs.declared.link_fact.LinkFact.TheVariants as fact
 use Rattle.job_desk.specs.Data.{Data, Line, moment_after}
-use Rattle.job_desk.specs.Pull.{Drawn, nothing, draw_at, settle_at, settled, pull_step, issue, from_scripts, from_manual, poll_is_due}
-use Rattle.job_desk.specs.Note.{Noted, end_at, after_open, ready_at, fail, note_step}
+use Rattle.job_desk.specs.Pull.{Drawn, nothing, draw_at, settle_at, settled, pull_step, issue, from_scripts, from_manual, poll_is_due, from_probe, probe_is_due}
+use Rattle.job_desk.specs.Note.{Noted, end_at, ready_at, fail, note_step, with_acked}
 use Rattle.job_desk.specs.declared.state.State.{State}
 use Rattle.job_desk.specs.declared.state.State.TheVariants.{Connecting, Operational, Fault}
 use Rattle.job_desk.specs.declared.state.Tag.TheVariants.{Manual, Poll}
 use Rattle.job_desk.proofs.Connecting.{none_ends}
 use Rattle.octo_session.specs.DeskTurn.{Pulls}
 use Rattle.octo_session.proofs.Counts.{counted_pull}
-use Rattle.octo_session_plan_proof.proofs.Pulling.{issue_state}
+use Rattle.octo_session_plan_proof.proofs.Issues.{issue_state}
 
 -- What pulls leave as it is.
 
@@ -35,13 +35,24 @@ pub kept_manual : (m : List (List ℕ)) (d : Data) (next : Drawn) → next.1.sta
 kept_manual [] d next same = same
 kept_manual (text ∷ texts) d next same = issue_state (record { text = text; tag = Manual }) (record d { manual = texts })
 
+pub kept_probe : (awaited moment : ℕ) (d : Data) → (from_probe awaited moment d).1.state ≡ d.state
+kept_probe awaited moment d = choose (probe_is_due awaited moment d)
+  where
+    asked : Data
+    asked = record d { probe_at = moment_after moment d.poll_ms }
+
+    choose : (b : Bool) → (cond b (issue (record { text = codes "M400"; tag = Poll }) asked) (nothing d)).1.state ≡ d.state
+    choose true = issue_state (record { text = codes "M400"; tag = Poll }) asked
+    choose false = refl
+
 pub kept_poll : (b : Bool) (at : ℕ) (d : Data) (next : Drawn) → next.1.state ≡ d.state
     → (cond b (issue (record { text = codes "M105"; tag = Poll }) (record d { poll_at = at })) next).1.state ≡ d.state
 kept_poll true at d next same = issue_state (record { text = codes "M105"; tag = Poll }) (record d { poll_at = at })
 kept_poll false at d next same = same
 
 draw_open : (moment : ℕ) (d : Data) → (draw_at Operational moment d).1.state ≡ d.state
-draw_open moment d = kept_scripts d.waiting d _ (kept_manual d.manual d _ (kept_poll (poll_is_due moment d) (moment_after moment d.poll_ms) d (nothing d) refl))
+draw_open moment d = kept_scripts d.waiting d _ (kept_manual d.manual d _ (kept_poll (poll_is_due moment d) (moment_after moment d.poll_ms) d _
+    (kept_probe d.issued moment d)))
 
 pub settled_open : (d : Data) → d.state ≡ Operational → (settled d).state ≡ Operational
 settled_open d at = ap (λ s. (settle_at s d).state) at ∙ at
@@ -63,11 +74,11 @@ pulls_open moment lines old new at pulls = pulls_keep Operational pull_open mome
 -- What notes make of the state.
 
 pub note_connecting : (acked moment : ℕ) (d : Data) → d.state ≡ Connecting → (note_step acked fact.Quiet moment d).1.state ≡ Connecting
-note_connecting acked moment d at = none_ends (record d { acked = acked }) at
+note_connecting acked moment d at = none_ends (with_acked acked moment d) at
 
 pub note_ready : (acked moment : ℕ) (d : Data) → d.state ≡ Connecting → (note_step acked fact.Ready moment d).1.state ≡ Operational
 note_ready acked moment d at =
-    let heard : Data = record d { acked = acked; ready = true } in
+    let heard : Data = record (with_acked acked moment d) { ready = true } in
     let is : ready_at d.state moment heard ≡ ready_at Connecting moment heard = ap (λ s. ready_at s moment heard) at in
     ap (λ (x : Data). (settled (end_at x.state x).1).state) is
 

@@ -1,5 +1,5 @@
 -- The print over a whole turn of its session.
-use Rattle.std.proofs.Common.{◌≡◌, ◌⊎◌, inl, inr, ℕ, ◌≤◌, Bool, true, false, cond, not, ◌&&◌, List, [], ◌∷◌, ◌++◌, Option, None, Some, refl, sym, ◌∙◌, ap, subst, arith, append_assoc}
+use Rattle.std.proofs.Common.{◌≡◌, ◌⊎◌, inl, inr, ℕ, ◌≤◌, Bool, true, false, cond, List, [], ◌∷◌, ◌++◌, Option, None, Some, refl, sym, ◌∙◌, ap, subst, arith, append_assoc}
 use Rattle.std.specs.Option.{option_or}
 use Rattle.std.proofs.lemmas.List.{append-nil}
 use Rattle.std.proofs.lemmas.Bool.{false≢true}
@@ -9,15 +9,14 @@ use Rattle.print_queue.specs.declared.ending.Ending.{Ending}
 use Rattle.print_queue.specs.declared.ending.Outcome.{Outcome}
 use Rattle.print_queue.specs.declared.ending.Outcome.TheVariants as outcome
 use Rattle.job_desk.specs.Data.{Data, Line}
-use Rattle.job_desk.specs.Table.{is_closable_at}
 use Rattle.job_desk.specs.Pull.{pull_step}
-use Rattle.job_desk.specs.Note.{Noted, after_ending, end_at, is_over, finish, note_step, first_fact}
+use Rattle.job_desk.specs.Note.{Noted, after_ending, end_at, is_over, finish, note_step, first_fact, with_acked}
 use Rattle.job_desk.specs.declared.state.State.{State}
 use Rattle.job_desk.specs.declared.state.State.TheVariants.{Offline, Connecting, Operational, Printing, Pausing, Paused, Cancelling, Finishing, Closing, Fault}
 use Rattle.job_desk.proofs.Connecting.{note_opened}
 use Rattle.printer_link.specs.Link.{LinkKind}
 use Rattle.printer_model.specs.declared.event.WorldEvent.{WorldEvent}
-use Rattle.octo_session.specs.Data.{SessionData, IsSession, is_connecting, doing}
+use Rattle.octo_session.specs.Data.{SessionData, IsSession, doing}
 use Rattle.octo_session.specs.DeskTurn.{Pulls, last_noted, IsNoted}
 use Rattle.octo_session.specs.Found.{Got, unasked, lost, nothing as silence, whole, can_find, may_issue}
 use Rattle.octo_session.specs.Turn.{fact_of, note_lines, IsTurn, IsDeskTurn, texts_in}
@@ -155,7 +154,7 @@ module _ (p : PrintData) where
   noted_last fact.Failed acked moment issued noted below h =
       let last : Noted = note_step acked fact.Failed moment noted.1 in
       let so : NotedSo p issued last = note-underway p fact.Failed acked moment noted.1 issued (below refl) h.0 in
-      let down : last.1.state ≡ Fault = failed_state (after_ending (record noted.1 { acked = acked })) in
+      let down : last.1.state ≡ Fault = failed_state (after_ending (with_acked acked moment noted.1)) in
       let its_end : EndsAs p last.0 Fault issued = subst (λ s. EndsAs p last.0 s issued) down so.1 in
       (so.0, subst (λ s. EndsAs p (option_or noted.0 last.0) s issued) (sym down) (either_end noted.0 last.0 noted.1.state issued h.1 its_end))
 
@@ -210,10 +209,10 @@ module _ (p : PrintData) where
       → old.acked ≤ acked → IsNoted moment acked fact.Quiet lines old ending new → IsUnderway p old issued → ending ≡ Some end
       → (new.state ≡ Operational) × (new.greatest ≡ 1)
   leaves_open moment acked lines issued old ending new end more n h is =
-      let told : Data = record old { acked = acked } in
+      let told : Data = with_acked acked moment old in
       let done : Noted = end_at told.state told in
       let at_end : done.0 ≡ Some end = sym (ap (λ (x : Noted). x.0) n.is) ∙ is in
-      let so = ends_open told.state told issued end refl (acked_more p acked old issued (λ off. more) h) at_end in
+      let so = ends_open told.state told issued end refl (acked_more p acked moment old issued (λ off. more) h) at_end in
       let first : (note_step acked fact.Quiet moment old).1.state ≡ Operational = settled_open done.1 so.0 in (
         ap (λ (x : Noted). x.1.state) n.is ∙ pulls_open moment lines (note_step acked fact.Quiet moment old).1 n.pulled first n.pulls,
         noted_greatest moment acked fact.Quiet lines old ending new n ∙ so.1,

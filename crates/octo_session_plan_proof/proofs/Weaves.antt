@@ -1,5 +1,5 @@
 -- Weaves, and the plan as lines and as texts.
-use Rattle.std.proofs.Common.{◌≡◌, cond, ℕ, zero, suc, ◌+◌, ◌≤◌, List, [], ◌∷◌, ◌++◌, length, take, drop, slice_get, Some, refl, sym, ◌∙◌, ap, arith, append_assoc}
+use Rattle.std.proofs.Common.{◌≡◌, Bool, true, cond, ℕ, zero, suc, ◌+◌, ◌≤◌, List, [], ◌∷◌, ◌++◌, length, take, drop, slice_get, Some, refl, sym, ◌∙◌, ap, arith, append_assoc}
 use Rattle.std.proofs.lemmas.List.{append-nil, map-append, take-append-drop, take_all}
 use Rattle.job_desk.specs.Data.{ScriptTexts, Line, tagged, script_lines}
 use Rattle.job_desk.specs.Course.{job_line}
@@ -7,26 +7,41 @@ use Rattle.job_desk.specs.Plain.{numbered}
 use Rattle.job_desk.specs.declared.state.Point.TheVariants as point
 use Rattle.job_desk.specs.declared.state.Tag.{Tag}
 use Rattle.octo_session_plan_proof.specs.Plan.{is_poll, without_polls, PrintData, print_commands, connected_lines, started_lines, printed_lines, done_lines, plan_lines}
-use Rattle.octo_session.specs.Plan.{plan, poll, Weave, empty, planned, polled, IsPart}
+use Rattle.octo_session.specs.Plan.{plan, poll, probe, Weave, empty, planned, polled, probed, IsPart}
 use Rattle.octo_session.specs.Turn.{texts_in}
 
+-- with numbers a probe is no text of the plan
+probe_is : (n : Bool) → n ≡ true → is_poll n probe ≡ true
+probe_is n on = ap (λ (b : Bool). is_poll b probe) on
+
 -- the plan's next text is issued
-pub weave_planned : (list plan : List (List ℕ)) (text : List ℕ) → Weave list plan → Weave (list ++ text ∷ []) (plan ++ text ∷ [])
-weave_planned _ _ text empty = planned text [] [] empty
-weave_planned _ _ text (planned first list plan w) = planned first (list ++ text ∷ []) (plan ++ text ∷ []) (weave_planned list plan text w)
-weave_planned _ _ text (polled list plan w) = polled (list ++ text ∷ []) (plan ++ text ∷ []) (weave_planned list plan text w)
+pub weave_planned : (n : Bool) (list plan : List (List ℕ)) (text : List ℕ) → Weave n list plan → Weave n (list ++ text ∷ []) (plan ++ text ∷ [])
+weave_planned n _ _ text empty = planned text [] [] empty
+weave_planned n _ _ text (planned first list plan w) = planned first (list ++ text ∷ []) (plan ++ text ∷ []) (weave_planned n list plan text w)
+weave_planned n _ _ text (polled list plan w) = polled (list ++ text ∷ []) (plan ++ text ∷ []) (weave_planned n list plan text w)
+weave_planned n _ _ text (probed list plan on w) = probed (list ++ text ∷ []) (plan ++ text ∷ []) on (weave_planned n list plan text w)
 
 -- a poll is issued
-pub weave_polled : (list plan : List (List ℕ)) → Weave list plan → Weave (list ++ poll ∷ []) plan
-weave_polled _ _ empty = polled [] [] empty
-weave_polled _ _ (planned first list plan w) = planned first (list ++ poll ∷ []) plan (weave_polled list plan w)
-weave_polled _ _ (polled list plan w) = polled (list ++ poll ∷ []) plan (weave_polled list plan w)
+pub weave_polled : (n : Bool) (list plan : List (List ℕ)) → Weave n list plan → Weave n (list ++ poll ∷ []) plan
+weave_polled n _ _ empty = polled [] [] empty
+weave_polled n _ _ (planned first list plan w) = planned first (list ++ poll ∷ []) plan (weave_polled n list plan w)
+weave_polled n _ _ (polled list plan w) = polled (list ++ poll ∷ []) plan (weave_polled n list plan w)
+weave_polled n _ _ (probed list plan on w) = probed (list ++ poll ∷ []) plan on (weave_polled n list plan w)
 
--- the texts of a weave but for polls are those of its plan
-pub weave_others : (list plan : List (List ℕ)) → Weave list plan → without_polls list ≡ without_polls plan
-weave_others _ _ empty = refl
-weave_others _ _ (planned text list plan w) = ap (λ (l : List (List ℕ)). cond (is_poll text) l (text ∷ l)) (weave_others list plan w)
-weave_others _ _ (polled list plan w) = weave_others list plan w
+-- a probe is issued
+pub weave_probed : (n : Bool) (list plan : List (List ℕ)) → n ≡ true → Weave n list plan → Weave n (list ++ probe ∷ []) plan
+weave_probed n _ _ on empty = probed [] [] on empty
+weave_probed n _ _ on (planned first list plan w) = planned first (list ++ probe ∷ []) plan (weave_probed n list plan on w)
+weave_probed n _ _ on (polled list plan w) = polled (list ++ probe ∷ []) plan (weave_probed n list plan on w)
+weave_probed n _ _ on (probed list plan is w) = probed (list ++ probe ∷ []) plan is (weave_probed n list plan on w)
+
+-- the texts of a weave but for polls and probes are those of its plan
+pub weave_others : (n : Bool) (list plan : List (List ℕ)) → Weave n list plan → without_polls n list ≡ without_polls n plan
+weave_others n _ _ empty = refl
+weave_others n _ _ (planned text list plan w) = ap (λ (l : List (List ℕ)). cond (is_poll n text) l (text ∷ l)) (weave_others n list plan w)
+weave_others n _ _ (polled list plan w) = weave_others n list plan w
+weave_others n _ _ (probed list plan on w) =
+    ap (λ (b : Bool). cond b (without_polls n list) (probe ∷ without_polls n list)) (probe_is n on) ∙ weave_others n list plan w
 
 pub part_self : {X : Type 0} (xs : List X) → IsPart xs xs
 part_self xs = record { rest = []; joined = append-nil xs }

@@ -27,12 +27,13 @@ pub record IsAt (kind : LinkKind) (past : Option (List WorldEvent)) (P : WorldDa
   pub recorded : past ≡ Some now
   pub is : P (world_in kind now)
 
--- the desk of a print without a hot command, which polls after this many milliseconds
+-- the desk of a print without a hot command over a printer whose `ok`s have no numbers, which polls after this many milliseconds
 pub record HasCourse (p : PrintData) (poll_ms : ℕ) (d : Data) : Type 0 where
   pub issued : List (List ℕ)
   pub course : IsUnderway p d issued
   pub cool : first_hot_of p.limits p.file.job.commands ≡ None
   pub its_ms : d.poll_ms ≡ poll_ms
+  pub plain : p.numbered ≡ false
 
 -- the number of lines of the plan
 abbrev pub plan_length : PrintData → ℕ
@@ -57,6 +58,8 @@ pub record IsToDial (kind : LinkKind) (p : PrintData) (poll_ms left : ℕ) (past
   pub recorded : is_some past ≡ true
   pub desk : HasCourse p poll_ms x.desk
   pub connects : x.desk.state ≡ Connecting
+  -- `ok`s are counted
+  pub counts : x.sender.numbered ≡ false
   pub sound : IsSound x.sender
   pub enough : plan_length p + 12 ≤ left
   pub few : left < most_lines

@@ -1,24 +1,26 @@
 -- What one print issues, in order.
-use Rattle.std.specs.Prelude.{ℕ, Bool, nat_eq, List, [], ◌∷◌, ◌++◌, take, if◌then◌else◌}
+use Rattle.std.specs.Prelude.{ℕ, Bool, ◌&&◌, ◌||◌, nat_eq, List, [], ◌∷◌, ◌++◌, take, if◌then◌else◌}
 use Rattle.std.specs.Cmp.Lexicographic.{pointwise}
 use Rattle.gcode_lines.specs.Job.{texts_of}
 use Rattle.temp_rules.specs.declared.limits.Limits.{Limits}
 use Rattle.job_desk.specs.Data.{ScriptTexts, File, Line, script_lines}
 use Rattle.job_desk.specs.Plain.{numbered}
 use Rattle.job_desk.specs.declared.state.Point.TheVariants as point
-use Rattle.octo_session.specs.Plan.{poll}
+use Rattle.octo_session.specs.Plan.{poll, probe}
 
--- whether a text is a poll
-abbrev pub is_poll : List ℕ → Bool
-is_poll text = pointwise nat_eq text poll
+-- whether a text is a poll, or, if `ok`s have numbers, a probe
+abbrev pub is_poll : Bool → List ℕ → Bool
+is_poll numbered text = pointwise nat_eq text poll || (numbered && pointwise nat_eq text probe)
 
--- the texts but for polls
-abbrev pub without_polls : List (List ℕ) → List (List ℕ)
-without_polls [] = []
-without_polls (text ∷ texts) = if is_poll text then without_polls texts else text ∷ without_polls texts
+-- the texts but for polls and probes
+abbrev pub without_polls : Bool → List (List ℕ) → List (List ℕ)
+without_polls numbered [] = []
+without_polls numbered (text ∷ texts) =
+    if is_poll numbered text then without_polls numbered texts else text ∷ without_polls numbered texts
 
--- what a print is made of: its scripts, the limits of its commands, and its file
+-- what a print is made of: whether its printer's `ok`s have numbers, its scripts, the limits of its commands, and its file
 pub record PrintData : Type 0 where
+  pub numbered : Bool
   pub scripts : ScriptTexts
   pub limits : Limits
   pub file : File

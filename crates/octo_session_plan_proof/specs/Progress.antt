@@ -1,5 +1,5 @@
 -- The steps of a print on its desk, and what a whole run of them comes to.
-use Rattle.std.specs.Prelude.{◌≡◌, ◌⊎◌, ℕ, false, List, [], ◌∷◌, ◌++◌, Option, None, Some}
+use Rattle.std.specs.Prelude.{◌≡◌, ◌⊎◌, ℕ, Bool, false, List, [], ◌∷◌, ◌++◌, Option, None, Some}
 use Rattle.temp_rules.specs.declared.limits.Limits.{Limits}
 use Rattle.temp_rules.specs.Hot.{first_hot_of}
 use Rattle.job_desk.specs.Data.{Data, File, Line, ScriptTexts, new_desk}
@@ -78,7 +78,7 @@ MayTakeAll (step ∷ steps) x = MayTake step x.desk × MayTakeAll steps (after s
 
 -- what was issued follows the plan, and so does what comes next
 pub record FollowsPlan (p : PrintData) (x : Progress) : Type 0 where
-  pub part : WeavesPart x.issued (plan p.scripts (print_commands p))
+  pub part : WeavesPart p.numbered x.issued (plan p.scripts (print_commands p))
   -- the desk is offline again only after the whole plan
   pub whole : x.desk.state ≡ Offline → IsWhole p x.desk x.issued
   -- an ending says what was issued
@@ -90,7 +90,7 @@ pub record FollowsPlan (p : PrintData) (x : Progress) : Type 0 where
 -- the law: whatever the facts and their order
 abbrev pub EveryPrintFollowsItsPlan : Type 0
 EveryPrintFollowsItsPlan =
-    (scripts : ScriptTexts) (limits : Limits) (poll_ms : ℕ) (port : List ℕ) (file : File) (steps : List PrintStep) →
-    let start : Progress = record { desk = after_select port file (new_desk scripts limits poll_ms); issued = [] } in
+    (scripts : ScriptTexts) (limits : Limits) (poll_ms : ℕ) (numbered : Bool) (port : List ℕ) (file : File) (steps : List PrintStep) →
+    let start : Progress = record { desk = after_select port file (new_desk scripts limits poll_ms numbered); issued = [] } in
     first_hot_of limits file.job.commands ≡ None → MayTakeAll steps start →
-    FollowsPlan (record { scripts = scripts; limits = limits; file = file }) (after_all steps start)
+    FollowsPlan (record { numbered = numbered; scripts = scripts; limits = limits; file = file }) (after_all steps start)

@@ -23,6 +23,7 @@ pub record IsInStep (place : ℕ) (queued flying : List (List ℕ)) (w : WorldDa
 -- a ready session over a prompt link: what is sent and unacknowledged waits in the printer, and then on the wire to it
 pub record IsReadySession (s : SenderData) (w : WorldData) : Type 0 where
   pub ready_is : s.ready ≡ true
+  pub counts : s.numbered ≡ false
   pub awaiting : s.swallow ≡ false
   pub running : s.ended ≡ None
   pub sound : IsSound s
@@ -35,6 +36,7 @@ pub record IsReadySession (s : SenderData) (w : WorldData) : Type 0 where
 -- a session over a prompt link before its hello is acknowledged; the hello is on the wire to the printer if it was sent
 pub record IsGreeting (up : List (List ℕ)) (due : Bool) (s : SenderData) (w : WorldData) : Type 0 where
   pub unready : s.ready ≡ false
+  pub counts : s.numbered ≡ false
   pub awaiting : s.swallow ≡ false
   pub running : s.ended ≡ None
   pub sound : IsSound s

@@ -1,7 +1,7 @@
 -- How far a print is: what of its plan was issued, and what its desk holds ready.
-use Rattle.std.specs.Prelude.{◌≡◌, ℕ, ◌<◌, ◌≤◌, Bool, true, false, List, [], ◌++◌, length, All, Option, None, Some}
+use Rattle.std.specs.Prelude.{◌≡◌, ℕ, ◌<◌, ◌≤◌, Bool, true, false, List, [], ◌++◌, length, take, All, Option, None, Some}
 use Rattle.job_desk.specs.Data.{Data, Line}
-use Rattle.job_desk.specs.Table.{is_closable_at}
+use Rattle.job_desk.specs.Table.{closing_line, is_closable_at}
 use Rattle.job_desk.specs.declared.state.State.{State}
 use Rattle.job_desk.specs.declared.state.State.TheVariants.{Offline, Connecting, Operational, Printing, Finishing, Closing, Fault}
 use Rattle.job_desk.specs.declared.state.Point.TheVariants as point
@@ -74,9 +74,11 @@ pub data Phase (p : PrintData) (s : Standing) : List Line → Type 0 where
 pub record IsCounted (d : Data) (issued : List (List ℕ)) : Type 0 where
   pub all : d.issued ≡ length issued
   pub print : d.print_line ≤ d.issued
+  pub last : d.last_line ≤ d.issued
 
 -- the print is so far at this desk, with these texts issued over its connection
 pub record IsUnderway (p : PrintData) (d : Data) (issued : List (List ℕ)) : Type 0 where
+  pub numbered_is : d.numbered ≡ p.numbered
   pub scripts_are : d.scripts ≡ p.scripts
   pub limits_are : d.limits ≡ p.limits
   pub file_is : d.file ≡ Some p.file
@@ -87,16 +89,20 @@ pub record IsUnderway (p : PrintData) (d : Data) (issued : List (List ℕ)) : Ty
   pub phase : Phase p (standing d) lines
   pub sent : List Line
   pub parted : sent ++ d.waiting ≡ lines
-  pub woven : Weave issued (texts_in sent)
-  -- a u64 counts them
+  pub woven : Weave p.numbered issued (texts_in sent)
+  -- a u64 counts them, and those of the plan are among the first ones, up to the last that is no poll
   pub counted : d.issued < last_number → IsCounted d issued
-  -- the connection is closed only once all was acknowledged
-  pub acknowledged : d.state ≡ Offline → d.issued ≤ d.acked
+  pub by_last : d.issued < last_number → Weave p.numbered (take d.last_line issued) (texts_in sent)
+  -- the connection is closed only once all lines, or all but polls, were acknowledged
+  pub acknowledged : d.state ≡ Offline → closing_line d ≤ d.acked
 
 -- the whole plan was issued, and all of it was acknowledged
 pub record IsWhole (p : PrintData) (d : Data) (issued : List (List ℕ)) : Type 0 where
-  pub woven : Weave issued (plan p.scripts (print_commands p))
-  pub acknowledged : d.issued ≤ d.acked
+  pub numbered_is : d.numbered ≡ p.numbered
+  pub woven : Weave p.numbered issued (plan p.scripts (print_commands p))
+  -- the acknowledged texts are the whole plan, and all that were issued if `ok`s have no numbers
+  pub acknowledged : d.issued < last_number → Weave p.numbered (take d.acked issued) (plan p.scripts (print_commands p))
+  pub all_acked : p.numbered ≡ false → d.issued ≤ d.acked
   pub all : d.issued < last_number → d.issued ≡ length issued
 
 -- a fact that the link may report to such a desk
@@ -113,7 +119,7 @@ Suits (fact.Ended end) acked d = d.acked ≤ acked
 pub record IsPrinted (p : PrintData) (issued : List (List ℕ)) : Type 0 where
   pub first : List (List ℕ)
   pub is_part : IsPart first issued
-  pub woven : Weave first (texts_in (done_lines p))
+  pub woven : Weave p.numbered first (texts_in (done_lines p))
 
 -- what each outcome says; a print that has a desk of its own isn't cancelled
 abbrev pub ComesTo : PrintData → Outcome → State → List (List ℕ) → Type 0
