@@ -16,6 +16,8 @@ use Rattle.octo_session_print.specs.Printed.{HasPrinted}
 use Rattle.octo_session_print.specs.Waiting.{HasWaited}
 use Rattle.octo_session_print.specs.declared.end.PrintEnd.{PrintEnd}
 use Rattle.octo_session_print.specs.declared.end.PrintEnd.TheVariants as end
+use Rattle.octo_settings.specs.Config.{with_numbers}
+use Rattle.octo_settings.specs.declared.fault.SettingsFault.{SettingsFault}
 use Rattle.octo_settings.specs.declared.settings.Settings.{Settings}
 use Rattle.octo_files.specs.declared.report.Report.{Report}
 use Rattle.octo_files.specs.declared.report.Report.TheVariants as report
@@ -28,11 +30,28 @@ abbrev pub HaveJob : Option Files → List ℕ → Limits → Result JobData Rep
 HaveJob files file limits found =
     IsTroubled found ⊎ FileGives files file (λ bytes. found ≡ job_in limits bytes)
 
+-- settings to which numbers were added, unless that was refused
+abbrev pub numbered_or : Result (Unit {0}) SettingsFault × Settings → Result Settings Report
+numbered_or (Ok u, settings) = Ok settings
+numbered_or (Err fault, settings) = Err (report.BadSettings fault)
+
+-- the settings of a print; if it is to be sure, `ok`s have numbers, whatever the settings say
+abbrev pub settings_for : Bool → Settings → Result Settings Report
+settings_for false settings = Ok settings
+settings_for true settings = numbered_or (with_numbers settings)
+
+-- the settings that a print uses, by those of a file or the defaults
+abbrev pub UseSettings : Option Files → Option (List ℕ) → Bool → Result Settings Report → Type 0
+UseSettings files settings sure found =
+    ((r : Report) × HaveSettings files settings (Err r) × (found ≡ Err r))
+    ⊎ ((s : Settings) × HaveSettings files settings (Ok s) × (found ≡ settings_for sure s))
+
 -- what reading the settings and then the file comes to
-pub data Reads (files : Option Files) (settings : Option (List ℕ)) (file : List ℕ) : Result (Settings × JobData) Report → Type 0 where
-  no_settings : (r : Report) → HaveSettings files settings (Err r) → Reads files settings file (Err r)
-  no_job : (s : Settings) (r : Report) → HaveSettings files settings (Ok s) → HaveJob files file s.limits (Err r) → Reads files settings file (Err r)
-  both : (s : Settings) (job : JobData) → HaveSettings files settings (Ok s) → HaveJob files file s.limits (Ok job) → Reads files settings file (Ok (s, job))
+pub data Reads (files : Option Files) (settings : Option (List ℕ)) (sure : Bool) (file : List ℕ) : Result (Settings × JobData) Report → Type 0 where
+  no_settings : (r : Report) → UseSettings files settings sure (Err r) → Reads files settings sure file (Err r)
+  no_job : (s : Settings) (r : Report) → UseSettings files settings sure (Ok s) → HaveJob files file s.limits (Err r) → Reads files settings sure file (Err r)
+  both : (s : Settings) (job : JobData) → UseSettings files settings sure (Ok s) → HaveJob files file s.limits (Ok job)
+      → Reads files settings sure file (Ok (s, job))
 
 -- how the end of a print of a job over a port is reported
 abbrev pub print_end_report : PrintEnd → List ℕ → JobData → Report
@@ -83,19 +102,19 @@ lines_planned s job = length (plan s.scripts (texts_of job))
 pub record HasRun (kind : LinkKind) (s : Settings) (job : JobData) (asked : Asked) (h : Seen) (how : PrintEnd) : Type 0 where
   -- the first lines of the plan were printed, in one session at most; all of it if the print is done
   pub acked : ℕ
-  pub printed : Recorded h.first h.now (HasPrinted kind (plan s.scripts (texts_of job)) how acked)
+  pub printed : Recorded h.first h.now (HasPrinted s.numbered_oks kind (plan s.scripts (texts_of job)) how acked)
   -- each end by its cause
   pub cool : (line hot limit : ℕ) → how ≢ end.TooHot line hot limit
   pub no_port : (how ≡ end.NoPort) ↔ ((1 ≤ asked.turns) × (kind.listed asked.port ≡ false))
-  pub ended : (why : SessionEnd) → how ≡ end.Ended why → EndCausedAs kind h.now why
+  pub ended : (why : SessionEnd) → how ≡ end.Ended why → EndCausedAs s.numbered_oks kind h.now why
   -- which names five limits, twenty, or how many lines a session may have
   pub limits : (count : ℕ) → how ≡ end.Ended (NoAnswer count) → count ≡ most_silent
   pub missing : (count : ℕ) → how ≡ end.Ended (LostOk count) → count ≡ most_told
   pub numbers : (all : ℕ) → how ≡ end.Ended (NumbersUsed all) → all ≡ most_lines
   pub used : (made : ℕ) → how ≡ end.TurnsUsed made → made ≡ asked.turns
   pub unsent : IsUnsent how → h.now ≡ h.first
-  -- over a prompt link it's done, if 32 turns more are allowed than its plan has lines
-  pub prompt : IsSmooth kind h.first asked.port h.faults h.faults_now h.moment s.limit_ms s.poll_ms
+  -- over a prompt link it's done without probes, if 32 turns more are allowed than its plan has lines
+  pub prompt : s.numbered_oks ≡ false → IsSmooth kind h.first asked.port h.faults h.faults_now h.moment s.limit_ms s.poll_ms
       → lines_planned s job + 32 ≤ asked.turns → how ≡ end.Done
 
 -- a job was printed and its end reported
@@ -115,14 +134,14 @@ Follows kind asked h r (Err refusal) = IsRefused h r refusal
 Follows kind asked h r (Ok (s, job)) = IsRefused h r report.NoMemory ⊎ IsRun kind s job asked h r
 
 -- a file was printed by settings, or not, and this is reported
-pub record IsFilePrint (kind : LinkKind) (files : Option Files) (settings : Option (List ℕ)) (file : List ℕ) (asked : Asked)
+pub record IsFilePrint (kind : LinkKind) (files : Option Files) (settings : Option (List ℕ)) (sure : Bool) (file : List ℕ) (asked : Asked)
     (h : Seen) (r : Report) : Type 0 where
   pub found : Result (Settings × JobData) Report
-  pub reads : Reads files settings file found
+  pub reads : Reads files settings sure file found
   pub follows : Follows kind asked h r found
 
 -- a print by settings that ended with no answer waited five of their limits, by a clock that showed `began` before and `now` after
-pub record WaitedBySettings (files : Option Files) (settings : Option (List ℕ)) (count : ℕ) (began now : Option ℕ) : Type 0 where
+pub record WaitedBySettings (files : Option Files) (settings : Option (List ℕ)) (sure : Bool) (count : ℕ) (began now : Option ℕ) : Type 0 where
   pub read : Settings
-  pub have : HaveSettings files settings (Ok read)
+  pub used : UseSettings files settings sure (Ok read)
   pub waited : HasWaited (end.Ended (NoAnswer count)) began read.limit_ms now

@@ -13,8 +13,9 @@ ghost use Rattle.octo_session_print.specs.Ends.{IsNew};
 ghost use Rattle.octo_session_print.specs.Waiting.{HasWaited};
 ghost use Rattle.octo_session_print.specs.declared.end.PrintEnd.TheVariants as end;
 ghost use Rattle.octo_settings.specs.Sound.{IsSettings};
+ghost use Rattle.octo_settings.specs.declared.settings.Settings.{Settings};
 ghost use Rattle.octo_files.specs.declared.report.Report.TheVariants as report;
-ghost use Rattle.octo_commands_print.specs.Printing.{IsFilePrint, IsRefused, IsRun, WaitedBySettings, seen_of, over_port, print_end_report, uses_link};
+ghost use Rattle.octo_commands_print.specs.Printing.{IsFilePrint, IsRefused, IsRun, UseSettings, WaitedBySettings, seen_of, over_port, print_end_report, settings_for, uses_link};
 
 use byte_text::Name;
 use gcode_lines::Job;
@@ -34,11 +35,20 @@ pub fn session_of(alloc: Global, settings: Settings) -> Result<Session, AllocErr
     requires { IsSettings settings }
     ensures new { IfOk result IsNew }
     ensures desk { IfOk result
-        (λ s. s.desk ≡ new_desk settings.scripts settings.limits settings.poll_ms) }
-    ensures sender { IfOk result (λ s. s.sender ≡ new_sender settings.window settings.limit_ms) }
+        (λ s. s.desk ≡ new_desk settings.scripts settings.limits settings.poll_ms
+        settings.numbered_oks) }
+    ensures sender { IfOk result
+        (λ s. s.sender ≡ new_sender settings.window settings.numbered_oks settings.limit_ms) }
 {
-    let desk = Desk::new(alloc, settings.scripts, settings.limits, settings.poll_ms)?;
-    let sender = Sender::new(alloc, settings.window, settings.limit_ms)?;
+    let numbered = settings.numbered_oks;
+    let desk = Desk::new(
+        alloc,
+        settings.scripts,
+        settings.limits,
+        settings.poll_ms,
+        numbered,
+    )?;
+    let sender = Sender::new(alloc, settings.window, numbered, settings.limit_ms)?;
     Ok(Session::new(desk, sender))
 }
 
@@ -75,7 +85,7 @@ fn print_job<L: Link, T: Clock>(
     turns: u64,
 ) -> Report
     requires down { L.up link.old ≡ false }
-    requires suits { SuitsAs false (L.past link.old) (L.kind link.old).oks }
+    requires suits { SuitsAs settings.numbered_oks (L.past link.old) (L.kind link.old).oks }
     requires sound { IsSettings settings }
     requires cool { first_hot_of settings.limits job.commands ≡ None }
 
@@ -113,8 +123,24 @@ fn print_job<L: Link, T: Clock>(
     }
 }
 
+// The settings of a print. If it is to be sure, `ok`s have numbers, whatever the settings say.
+fn settings_for(settings: Settings, sure: bool) -> Result<Settings, Report>
+    requires { IsSettings settings }
+    ensures exact { result ≡ settings_for sure settings }
+    ensures sound { IfOk result IsSettings }
+    ensures source { result ≢ Err report.SourceFailed }
+    ensures refused { IfErr result (λ r. uses_link r ≡ false) }
+{
+    let mut settings = settings;
+    if sure && let Err(fault) = settings.set_numbered() {
+        return Err(Report::BadSettings(fault));
+    }
+    Ok(settings)
+}
+
 /// Prints the file of that name over the port of that name, in at most this number of turns, by the settings in the file
-/// named for them, or by the defaults. Settings and file are read before anything is sent.
+/// named for them, or by the defaults. If it is to be `sure`, the printer's `ok`s have numbers, whatever the settings say.
+/// Settings and file are read before anything is sent.
 pub fn print_file<F: Source, L: Link, T: Clock>(
     alloc: Global,
     files: &mut F,
@@ -124,13 +150,16 @@ pub fn print_file<F: Source, L: Link, T: Clock>(
     file: &str,
     turns: u64,
     settings: Option<&str>,
+    sure: bool,
 ) -> Report
     requires down { L.up link.old ≡ false }
-    requires suits { SuitsAs false (L.past link.old) (L.kind link.old).oks }
+    requires suits { (used : Settings)
+        → UseSettings (F.files files.old) (option_map (λ s. s.now) settings) sure (Ok used)
+        → SuitsAs used.numbered_oks (L.past link.old) (L.kind link.old).oks }
 
     // The result.
     ensures print { IsFilePrint (L.kind link.old) (F.files files.old)
-        (option_map (λ s. s.now) settings.entry) file.now (over_port port.now turns)
+        (option_map (λ s. s.now) settings.entry) sure file.now (over_port port.now turns)
         (seen_of (L.past link.old) (L.past link.new)
         (L.faults link.old) (L.faults link.new) (T.moment clock.new)) result }
 
@@ -152,10 +181,14 @@ pub fn print_file<F: Source, L: Link, T: Clock>(
 
     // The clock.
     ensures waited { (count : ℕ) → result ≡ report.Ended (NoAnswer count)
-        → WaitedBySettings (F.files files.old) (option_map (λ s. s.now) settings.entry) count
-        (T.moment clock.old) (T.moment clock.new) }
+        → WaitedBySettings (F.files files.old) (option_map (λ s. s.now) settings.entry) sure
+        count (T.moment clock.old) (T.moment clock.new) }
 {
     let settings = match read_settings_of(alloc, files, settings) {
+        Ok(settings) => settings,
+        Err(report) => return report,
+    };
+    let settings = match settings_for(settings, sure) {
         Ok(settings) => settings,
         Err(report) => return report,
     };

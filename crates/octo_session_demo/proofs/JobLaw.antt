@@ -1,5 +1,5 @@
 -- Why no line of a demo's file is refused.
-use Rattle.std.proofs.Common.{◌≡◌, ◌∙◌, ◌<◌, ◌≤◌, ◌+◌, ◌*◌, ◌%◌, ℕ, zero, suc, Bool, true, false, ◌&&◌, ◌==◌, ◌⊎◌, inl, inr, true≢false, nat_lt, List, [], ◌∷◌, ◌++◌, length, map, codes, decimal, cond, refl, ap, sym, subst, arith, Result, Ok, Err, Option, None, Some}
+use Rattle.std.proofs.Common.{◌≡◌, ◌∙◌, ◌<◌, ◌≤◌, ◌+◌, ◌*◌, ◌%◌, ℕ, zero, suc, Bool, true, false, ◌==◌, ◌⊎◌, inl, inr, true≢false, nat_lt, List, [], ◌∷◌, ◌++◌, length, map, codes, decimal, cond, refl, ap, sym, subst, arith, Result, Ok, Err, Option, None, Some}
 use Rattle.std.specs.List.{list_any, list_all}
 use Rattle.std.specs.Char.{is_ascii_digit}
 use Rattle.std.proofs.lemmas.Bool.{or_parts, or_from, le-ltb, and_parts}

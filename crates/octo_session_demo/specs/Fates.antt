@@ -1,5 +1,5 @@
 -- The fates of the lines that are sent in a demo, and the link's schedule.
-use Rattle.std.specs.Prelude.{ℕ, ◌+◌, ◌*◌, ◌==◌, ◌%◌, false, if◌then◌else◌, List, [], ◌∷◌, codes}
+use Rattle.std.specs.Prelude.{ℕ, ◌+◌, ◌*◌, ◌==◌, ◌%◌, if◌then◌else◌, List, [], ◌∷◌, codes, Option, is_some, unwrap_or}
 use Rattle.printer_link.specs.declared.schedule.Fate.{Fate}
 use Rattle.printer_link.specs.declared.schedule.Fate.TheVariants.{Whole, Lost, Garbled}
 use Rattle.printer_link.specs.declared.schedule.Schedule.{Schedule}
@@ -30,16 +30,16 @@ abbrev pub demo_fates : (seed commands : ℕ) → List Fate
 demo_fates seed commands =
     Whole ∷ fates_after 0 (draws (number_after seed commands) (4 * commands + 1000))
 
--- the schedule of a demo's link
-abbrev pub demo_schedule : (seed commands : ℕ) → Schedule
-demo_schedule seed commands = record {
+-- the schedule of a demo's link; if lost replies are listed, the printer's `ok`s have numbers
+abbrev pub demo_schedule : (seed commands : ℕ) → Option (List ℕ) → Schedule
+demo_schedule seed commands lost = record {
   names = codes "demo" ∷ [];
   last = 4;
   slots = 4;
-  numbered = false;
+  numbered = is_some lost;
   fates = demo_fates seed commands;
   slow = 0;
   fail_at = [];
   restart_at = [];
-  lost = [];
+  lost = unwrap_or lost [];
 }

@@ -1,5 +1,5 @@
 -- The file of a demo.
-use Rattle.std.specs.Prelude.{ℕ, ◌==◌, ◌%◌, if◌then◌else◌, List, [], ◌++◌, codes, decimal, flat_map}
+use Rattle.std.specs.Prelude.{ℕ, ◌==◌, ◌%◌, if◌then◌else◌, List, ◌++◌, codes, decimal, flat_map}
 use Rattle.octo_session_demo.specs.Draws.{draws}
 
 -- the command that a draw names

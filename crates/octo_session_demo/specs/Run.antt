@@ -1,5 +1,5 @@
 -- What a demo runs, and what it comes to.
-use Rattle.std.specs.Prelude.{◌≡◌, ◌≢◌, ℕ, false, true, [], length, count_by, codes, Some, Ok}
+use Rattle.std.specs.Prelude.{◌≡◌, ◌≢◌, ℕ, Bool, false, true, List, [], length, count_by, codes, Option, Some, is_some, Ok}
 use Rattle.gcode_lines.specs.Commands.{job_of}
 use Rattle.gcode_lines.specs.Job.{JobData, texts_of}
 use Rattle.job_desk.specs.Scripts.{no_scripts}
@@ -22,29 +22,31 @@ use Rattle.octo_session_demo.specs.declared.report.DemoCounts.{DemoCounts}
 use Rattle.octo_session_demo.specs.declared.run.Demo.{Demo}
 
 -- what no call changes of a demo's link
-abbrev pub demo_kind : (seed commands : ℕ) → LinkKind
-demo_kind seed commands = link_kind (new_link (demo_schedule seed commands))
+abbrev pub demo_kind : (seed commands : ℕ) → Option (List ℕ) → LinkKind
+demo_kind seed commands lost = link_kind (new_link (demo_schedule seed commands lost))
 
 -- the greatest temperatures of a demo, in degrees Celsius
 abbrev pub demo_limits : Limits
 demo_limits = record { tool = 300; bed = 120 }
 
--- a print of this job without scripts ended so, over a link to which nothing happened before
-pub record IsPrint (kind : LinkKind) (job : JobData) (link : MemoryLinkData) (ended_as : PrintEnd) : Type 0 where
+-- a print of this job without scripts ended so, over a link to which nothing happened before, by whether `ok`s count by their
+-- numbers
+pub record IsPrint (numbered : Bool) (kind : LinkKind) (job : JobData) (link : MemoryLinkData) (ended_as : PrintEnd) : Type 0 where
   pub acked : ℕ
-  pub printed : Recorded (Some []) (Some link.story.past) (HasPrinted kind (plan no_scripts (texts_of job)) ended_as acked)
-  pub ended : (why : SessionEnd) → ended_as ≡ end.Ended why → EndCausedAs kind (Some link.story.past) why
+  pub printed : Recorded (Some []) (Some link.story.past) (HasPrinted numbered kind (plan no_scripts (texts_of job)) ended_as acked)
+  pub ended : (why : SessionEnd) → ended_as ≡ end.Ended why → EndCausedAs numbered kind (Some link.story.past) why
   pub same_kind : link_kind link ≡ kind
   pub down : (link_world link).linked ≡ false
   pub listed : kind.listed (codes "demo") ≡ true → ended_as ≢ end.NoPort
   pub cool : IsTooHot (first_hot_of demo_limits job.commands) ended_as
   pub used : (turns : ℕ) → ended_as ≡ end.TurnsUsed turns → turns ≡ 1000000000
 
--- a demo that was run: its file was printed over its link, whose port is listed and which didn't fail
-pub record IsDemo (seed commands : ℕ) (demo : Demo) : Type 0 where
+-- a demo that was run: its file was printed over its link, whose port is listed and which didn't fail; `ok`s count by their
+-- numbers exactly if lost replies are listed
+pub record IsDemo (seed commands : ℕ) (lost : Option (List ℕ)) (demo : Demo) : Type 0 where
   pub job : JobData
   pub its_file : job_of (demo_file seed commands) ≡ Ok job
-  pub print : IsPrint (demo_kind seed commands) job demo.link demo.end
+  pub print : IsPrint (is_some lost) (demo_kind seed commands lost) job demo.link demo.end
   pub listed : demo.end ≢ end.NoPort
   pub sound : demo.end ≢ end.LinkFailed
 

@@ -5,6 +5,7 @@ ghost use Rattle.send_window.specs.Data.{new_sender, IsSound};
 ghost use Rattle.octo_session_print.specs.Ends.{IsNew};
 ghost use Rattle.job_desk.specs.Scripts.{no_scripts};
 ghost use Rattle.printer_link.specs.Memory.{link_kind, link_world};
+ghost use Rattle.printer_link.specs.Suits.{Suits};
 ghost use Rattle.octo_session_demo.specs.Run.{IsDemo, IsPrint, counts_of, demo_limits};
 ghost use Rattle.octo_session_demo.specs.declared.file.TheConstants.{MOST_COMMANDS};
 
@@ -14,7 +15,7 @@ use crate::schedule::demo_schedule;
 use byte_text::Name;
 use gcode_lines::Job;
 use job_desk::{Desk, Scripts};
-use octo_outside::MemoryClock;
+use octo_outside::{CallList, MemoryClock};
 use octo_session::Session;
 use octo_session_print::{PrintEnd, run_print};
 use printer_link::MemoryLink;
@@ -43,29 +44,35 @@ pub struct Demo {
     pub end: PrintEnd,
 }
 
-// A session without scripts.
-fn plain_session(alloc: Global) -> Result<Session, AllocError>
+// A session without scripts, by whether `ok`s count by their numbers.
+fn plain_session(alloc: Global, numbered: bool) -> Result<Session, AllocError>
     ensures new { IfOk result IsNew }
-    ensures desk { IfOk result (λ session. session.desk ≡ new_desk no_scripts demo_limits 5000) }
-    ensures sender { IfOk result (λ session. session.sender ≡ new_sender 4 30000) }
+    ensures desk { IfOk result
+        (λ session. session.desk ≡ new_desk no_scripts demo_limits 5000 numbered) }
+    ensures sender { IfOk result (λ session. session.sender ≡ new_sender 4 numbered 30000) }
 {
     let limits = Limits {
         tool: 300,
         bed: 120,
     };
-    let desk = Desk::new(alloc, Scripts::new(alloc), limits, POLL)?;
-    let sender = Sender::new(alloc, WINDOW, LIMIT)?;
+    let desk = Desk::new(alloc, Scripts::new(alloc), limits, POLL, numbered)?;
+    let sender = Sender::new(alloc, WINDOW, numbered, LIMIT)?;
     Ok(Session::new(desk, sender))
 }
 
 // Prints a job over a link to which nothing happened before, in a session of its own.
-fn print_over(alloc: Global, link: &mut MemoryLink, job: Job) -> Result<PrintEnd, AllocError>
+fn print_over(
+    alloc: Global,
+    link: &mut MemoryLink,
+    numbered: bool,
+    job: Job,
+) -> Result<PrintEnd, AllocError>
     requires new { link.old.story.past ≡ [] }
-    requires plain { link.old.story.oks.lost ≡ false }
+    requires suits { Suits numbered link.old.story.oks }
     requires down { (link_world link.old).linked ≡ false }
-    ensures { IfOk result (IsPrint (link_kind link.old) job link.new) }
+    ensures { IfOk result (IsPrint numbered (link_kind link.old) job link.new) }
 {
-    let mut session = plain_session(alloc)?;
+    let mut session = plain_session(alloc, numbered)?;
     Ok(run_print(
         &mut session,
         link,
@@ -78,16 +85,23 @@ fn print_over(alloc: Global, link: &mut MemoryLink, job: Job) -> Result<PrintEnd
 }
 
 /// Prints the file of a demo over a link in memory of its own, for a seed of at most 2,147,483,647 and at most 200,000
-/// commands. The printer has 4 buffer slots and the last line number 4; the window is 4, and a rest takes 100 ms.
+/// commands. The printer has 4 buffer slots and the last line number 4; the window is 4, and a rest takes 100 ms. If lost
+/// replies are listed, counted from 1 as they join the wire from the printer, its `ok`s have numbers, by which the sender counts.
 /// Fails if out of memory, also if it is the link's.
-pub fn run_demo(alloc: Global, seed: u32, commands: u32) -> Result<Demo, AllocError>
+pub fn run_demo(
+    alloc: Global,
+    seed: u32,
+    commands: u32,
+    lost: Option<CallList>,
+) -> Result<Demo, AllocError>
     requires seed { seed ≤ 2147483647 }
     requires commands { commands ≤ MOST_COMMANDS }
-    ensures { IfOk result (IsDemo seed commands) }
+    ensures { IfOk result (IsDemo seed commands lost) }
 {
+    let numbered = lost.is_some();
     let job = demo_job(alloc, seed, commands)?;
-    let mut link = MemoryLink::new(alloc, demo_schedule(alloc, seed, commands)?)?;
-    let end = print_over(alloc, &mut link, job)?;
+    let mut link = MemoryLink::new(alloc, demo_schedule(alloc, seed, commands, lost)?)?;
+    let end = print_over(alloc, &mut link, numbered, job)?;
     if end == PrintEnd::LinkFailed {
         return Err(AllocError);
     }

@@ -1,5 +1,5 @@
 //! What a demo's link does with the lines that are sent.
-ghost use Rattle.std.specs.Prelude.{◌≡◌, ◌≤◌, ◌++◌, ◌∷◌, [], IfOk, OnOk, codes};
+ghost use Rattle.std.specs.Prelude.{◌≡◌, ◌≤◌, ◌++◌, ◌∷◌, [], IfOk, OnOk, codes, unwrap_or};
 ghost use Rattle.octo_session_demo.specs.Draws.{draws, upper_bits, next_draw, number_after};
 ghost use Rattle.octo_session_demo.specs.Fates.{fate_of, fate_after, harmed_after, fates_after, demo_fates, demo_schedule};
 ghost use Rattle.octo_session_demo.specs.declared.file.TheConstants.{MOST_COMMANDS};
@@ -98,21 +98,37 @@ fn names(alloc: Global) -> Result<NameList, AllocError>
     Ok(names)
 }
 
+// The replies of a list, none without one.
+fn listed_replies(alloc: Global, lost: Option<CallList>) -> CallList
+    ensures { result ≡ unwrap_or lost [] }
+{
+    match lost {
+        Some(replies) => replies,
+        None => CallList::new(alloc),
+    }
+}
+
 /// What the link of a demo of at most 200,000 commands does: a fifth of the lines that are sent are lost or corrupted,
-/// never three in a row. The first line, the hello, arrives whole. Fails if out of memory.
-pub fn demo_schedule(alloc: Global, seed: u32, commands: u32) -> Result<Schedule, AllocError>
+/// never three in a row. The first line, the hello, arrives whole. If lost replies are listed, counted from 1 as they join the
+/// wire from the printer, its `ok`s have numbers, and no other reply is lost. Fails if out of memory.
+pub fn demo_schedule(
+    alloc: Global,
+    seed: u32,
+    commands: u32,
+    lost: Option<CallList>,
+) -> Result<Schedule, AllocError>
     requires { commands ≤ MOST_COMMANDS }
-    ensures { IfOk result (λ schedule. schedule ≡ demo_schedule seed commands) }
+    ensures { IfOk result (λ schedule. schedule ≡ demo_schedule seed commands lost) }
 {
     Ok(Schedule {
         names: names(alloc)?,
         last: 4,
         slots: 4,
-        numbered: false,
+        numbered: lost.is_some(),
         fates: demo_fates(alloc, seed, commands)?,
         slow: 0,
         fail_at: CallList::new(alloc),
         restart_at: CallList::new(alloc),
-        lost: CallList::new(alloc),
+        lost: listed_replies(alloc, lost),
     })
 }

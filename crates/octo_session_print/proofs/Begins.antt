@@ -30,7 +30,7 @@ pub begins : (port : List ℕ) (file : File) (past : Option (List WorldEvent)) (
     first_hot_of x.desk.limits file.job.commands ≡ None → y.desk ≡ after_select port file x.desk → y.sender ≡ x.sender → y.up ≡ false →
     IsDialling (print_of x.desk file) (port_of y.desk) past past y
 begins port file past x y new cool desk sender up =
-    let d0 : Data = new_desk x.desk.scripts x.desk.limits x.desk.poll_ms in
+    let d0 : Data = new_desk x.desk.scripts x.desk.limits x.desk.poll_ms x.desk.numbered in
     let ready : y.desk ≡ after_select port file d0 = desk ∙ ap (after_select port file) new.its_desk in
     let S : SenderData → Type 0 = λ s. IsSound s in
     let D : Data → Type 0 = λ d. IsUnderway (print_of x.desk file) d [] in
@@ -42,21 +42,22 @@ begins port file past x y new cool desk sender up =
       on = record {
         course = subst D (sym desk) (select-underway x.desk port file new.its_desk);
         cool = cool;
+        its_kind = ap (λ (s : SenderData). s.numbered) sender ∙ sym new.kind;
         sound = subst S (sym sender) new.sound;
       };
       unstarted = ap (λ (d : Data). d.greatest) ready;
     }
 
 -- a print that is refused
-pub refused : (kind : LinkKind) (plan : List (List ℕ)) (past : Option (List WorldEvent)) (x : SessionData) (line asked limit : ℕ) → IsNew x →
-    IsOver kind plan (end.TooHot line asked limit) past past x
-refused kind plan past x line asked limit new =
+pub refused : (numbered : Bool) (kind : LinkKind) (plan : List (List ℕ)) (past : Option (List WorldEvent)) (x : SessionData) (line asked limit : ℕ) → IsNew x →
+    IsOver numbered kind plan (end.TooHot line asked limit) past past x
+refused numbered kind plan past x line asked limit new =
     let how : PrintEnd = end.TooHot line asked limit in
-    let A : ℕ → Type 0 = λ n. (before : List WorldEvent) → HasPrinted kind plan how n before [] in
+    let A : ℕ → Type 0 = λ n. (before : List WorldEvent) → HasPrinted numbered kind plan how n before [] in
     record {
-      printed = recorded_same past (HasPrinted kind plan how x.sender.acked)
-          (subst A (sym (new_acked x new)) (λ before. printed_of kind plan how [] 0 before [] (part_none plan) (λ is. absurd (cc)) (λ count is. absurd (cc))
-          (λ count is. absurd (cc)) (λ all is. absurd (cc)) (λ whole. none_unsent 0 []) (λ one. absurd (cc)) (λ why is. absurd (cc)) (none_printed kind before [] refl)));
+      printed = recorded_same past (HasPrinted numbered kind plan how x.sender.acked)
+          (subst A (sym (new_acked x new)) (λ before. printed_of numbered kind plan how [] 0 before [] (part_none numbered plan) (λ is. absurd (cc)) (λ count is. absurd (cc))
+          (λ count is. absurd (cc)) (λ all is. absurd (cc)) (λ whole. none_unsent 0 []) (λ one. absurd (cc)) (λ why is. absurd (cc)) (none_printed numbered kind before [] refl)));
       ended = λ why is. absurd (cc);
       unsent = λ none. refl;
     }

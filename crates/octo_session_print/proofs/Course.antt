@@ -3,7 +3,7 @@ use Rattle.std.proofs.Common.{◌≡◌, ℕ, Bool, false, List, [], refl, sym, 
 use Rattle.std.specs.Prelude.{Option, None, Some}
 use Rattle.temp_rules.specs.Hot.{first_hot_of}
 use Rattle.job_desk.specs.Data.{Data, Line}
-use Rattle.job_desk.specs.Note.{Noted, hung_up, note_step}
+use Rattle.job_desk.specs.Note.{Noted, hung_up, note_step, with_acked}
 use Rattle.job_desk.specs.Pull.{settled}
 use Rattle.job_desk.specs.Table.{Answer, start_at}
 use Rattle.job_desk.specs.declared.link_fact.LinkFact.TheVariants as fact
@@ -23,7 +23,7 @@ closed_off moment acked lines d ending e none goes n =
     let L : List Line → Type 0 = λ l. Pulls moment l (note_step acked fact.Closed moment d).1 n.pulled in
     let same : n.pulled ≡ (note_step acked fact.Closed moment d).1 = subst L none n.pulls in
     let off : (note_step acked fact.Closed moment d).1.state ≡ Offline =
-    ap (λ (b : Bool). (settled (hung_up b (record d { acked = acked })).1).state) goes in
+    ap (λ (b : Bool). (settled (hung_up b (with_acked acked moment d)).1).state) goes in
     ap (λ (q : Noted). q.1.state) n.is ∙ ap (λ (x : Data). x.state) same ∙ off
 
 -- the start of the print, if its desk lets it

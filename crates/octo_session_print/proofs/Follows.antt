@@ -97,7 +97,7 @@ module _ (kind : LinkKind) (p : PrintData) (port : List ℕ) (first now : Option
       IsOnLink kind p port first now (record x { desk = d })
   desk_talks l d course unstarted = record {
     issued = l.issued;
-    on = record { course = course; cool = l.on.cool; sound = l.on.sound };
+    on = record { course = course; cool = l.on.cool; its_kind = l.on.its_kind; sound = l.on.sound };
     up = l.up;
     listed = l.listed;
     history = recorded_so first now (λ past added. HasSentAll kind l.issued x past added) (λ past added. HasSentAll kind l.issued (record x { desk = d }) past added)
@@ -105,8 +105,8 @@ module _ (kind : LinkKind) (p : PrintData) (port : List ℕ) (first now : Option
     unstarted = unstarted;
   }
 
-  over_stays : (how : PrintEnd) → IsOver kind (plan p.scripts (print_commands p)) how first now x →
-      IsOver kind (plan p.scripts (print_commands p)) how first now (record x { desk = x.desk })
+  over_stays : (how : PrintEnd) → IsOver p.numbered kind (plan p.scripts (print_commands p)) how first now x →
+      IsOver p.numbered kind (plan p.scripts (print_commands p)) how first now (record x { desk = x.desk })
   over_stays how over = record { printed = over.printed; ended = over.ended; unsent = over.unsent }
 
   -- what follows of a turn

@@ -20,7 +20,7 @@ use Rattle.octo_session_print.specs.declared.end.PrintEnd.{PrintEnd}
 use Rattle.octo_session_print.specs.declared.end.PrintEnd.TheVariants as end
 use Rattle.octo_session_line_proof.proofs.AllSent.{none_unsent, all_sent_later}
 use Rattle.octo_session_line_proof.proofs.Histories.{none_printed}
-use Rattle.octo_session_print.proofs.Printing.{printed_of, part_none}
+use Rattle.octo_session_print.proofs.Printing.{printed_of, part_none, by_plan}
 use Rattle.octo_session_line_proof.proofs.Turns.{hung_printed}
 
 -- a print after this number of turns: only the first one dials
@@ -74,18 +74,18 @@ module _ (count : ℕ) (kind : LinkKind) (p : PrintData) (port : List ℕ) (firs
 
   -- no turn is left, and the link is hung up
   pub hung_over : (turns : ℕ) (last : Option (List WorldEvent)) → IsAfter count kind p port first now x →
-      Grows kind now last (IsHangUp x.up) → IsOver kind (plan p.scripts (print_commands p)) (end.TurnsUsed turns) first last x
+      Grows kind now last (IsHangUp x.up) → IsOver p.numbered kind (plan p.scripts (print_commands p)) (end.TurnsUsed turns) first last x
   hung_over turns last (inl d) hung =
       let dial = d.1 in
       let whole : List (List ℕ) = plan p.scripts (print_commands p) in
-      let P : List WorldEvent → List WorldEvent → Type 0 = λ past added. HasPrinted kind whole (end.TurnsUsed turns) x.sender.acked past added in
+      let P : List WorldEvent → List WorldEvent → Type 0 = λ past added. HasPrinted p.numbered kind whole (end.TurnsUsed turns) x.sender.acked past added in
       let F : Option (List WorldEvent) → Type 0 = λ f. Recorded f last P in
       let B : Bool → Type 0 = λ b. Grows kind now last (IsHangUp b) in
       let printed : (past added : List WorldEvent) → added ≡ [] → P past added =
-      λ past added none. (let A : ℕ → Type 0 = λ n. HasPrinted kind whole (end.TurnsUsed turns) n past added in
-      subst A (sym dial.none_acked) (printed_of kind whole (end.TurnsUsed turns) [] 0 past added (part_none whole) (λ is. absurd (cc)) (λ count is. absurd (cc))
+      λ past added none. (let A : ℕ → Type 0 = λ n. HasPrinted p.numbered kind whole (end.TurnsUsed turns) n past added in
+      subst A (sym dial.none_acked) (printed_of p.numbered kind whole (end.TurnsUsed turns) [] 0 past added (part_none p.numbered whole) (λ is. absurd (cc)) (λ count is. absurd (cc))
       (λ count is. absurd (cc)) (λ all is. absurd (cc)) (λ whole_print. none_unsent 0 added)
-      (λ one. absurd (omega (arith, one, ap opens none))) (λ why is. absurd (cc)) (none_printed kind past added (ap opens none))))
+      (λ one. absurd (omega (arith, one, ap opens none))) (λ why is. absurd (cc)) (none_printed p.numbered kind past added (ap opens none))))
       in
       record {
         printed = subst F dial.nothing (recorded_so now last (λ past added. added ≡ []) P (subst B (dials_down x dial.dials) hung) printed);
@@ -98,15 +98,19 @@ module _ (count : ℕ) (kind : LinkKind) (p : PrintData) (port : List ℕ) (firs
       record {
         printed = recorded_then first now last (λ past added. HasSentAll kind l.issued x past added)
             (λ past added. IsHangUp true (world_in kind past) added)
-            (λ past added. HasPrinted kind whole (end.TurnsUsed turns) x.sender.acked past added)
+            (λ past added. HasPrinted p.numbered kind whole (end.TurnsUsed turns) x.sender.acked past added)
             l.history (subst B l.up hung)
-            (λ past added more so hangs. printed_of kind whole (end.TurnsUsed turns) l.issued x.sender.acked past (added ++ more) (underway-part p x.desk l.issued l.on.course) (λ is. absurd (cc)) (λ count is. absurd (cc))
+            (λ past added more so hangs. printed_of p.numbered kind whole (end.TurnsUsed turns) l.issued x.sender.acked past (added ++ more) (underway-part p x.desk l.issued l.on.course) (λ is. absurd (cc)) (λ count is. absurd (cc))
             (λ count is. absurd (cc)) (λ all is. absurd (cc)) (λ whole_print. all_sent_later l.issued x.sender.acked x.sender.acked added more (omega arith) so.sent)
-            (λ one. hung_shut kind past added more hangs) (λ why is. absurd (cc)) (hung_printed kind l.issued x past added more so.made hangs));
+            (λ one. hung_shut kind past added more hangs) (λ why is. absurd (cc)) (by_plan kind p l.issued x past (added ++ more) l.on.its_kind (hung_printed kind l.issued x past added more so.made hangs)));
         ended = λ why is. absurd (cc);
         unsent = λ none. absurd none;
       }
 
--- a link suits a sender while its kind stays
-pub suits_still : (before now : LinkKind) (first : Option (List WorldEvent)) → now ≡ before → SuitsAs false first before.oks → SuitsAs false first now.oks
-suits_still before now first same suits = (let K : LinkKind → Type 0 = λ k. SuitsAs false first k.oks in subst K (sym same) suits)
+-- a link suits a sender while its kind and the sender's stay
+pub suits_still : (before now : LinkKind) (first : Option (List WorldEvent)) (old new : Bool) → now ≡ before → new ≡ old → SuitsAs old first before.oks →
+    SuitsAs new first now.oks
+suits_still before now first old new same kind suits =
+    let K : LinkKind → Type 0 = λ k. SuitsAs old first k.oks in
+    let B : Bool → Type 0 = λ b. SuitsAs b first now.oks in
+    subst B (sym kind) (subst K (sym same) suits)

@@ -1,11 +1,14 @@
 -- What a print has made of a history, by its plan and its end.
-use Rattle.std.proofs.Common.{◌≡◌, ◌≢◌, ◌⊎◌, inl, inr, ℕ, suc, ◌≤◌, false, List, [], ◌∷◌, ◌++◌, length, refl, sym, ◌∙◌, ap, arith}
+use Rattle.std.proofs.Common.{◌≡◌, ◌≢◌, ◌⊎◌, inl, inr, ℕ, zero, suc, ◌≤◌, Bool, false, List, [], ◌∷◌, ◌++◌, length, take, refl, sym, ◌∙◌, ap, subst, arith}
 use Rattle.std.specs.Prelude.{◌<◌, Option, Some, None}
-use Rattle.printer_model.specs.Executed.{opens, executed, logged_from}
+use Rattle.printer_model.specs.Executed.{opens, executed}
 use Rattle.printer_model.specs.declared.event.WorldEvent.{WorldEvent}
 use Rattle.printer_link.specs.Link.{LinkKind, world_in}
-use Rattle.octo_session.specs.Plan.{Weave, empty, WeavesPart}
+use Rattle.octo_session.specs.Plan.{Weave, empty, planned, polled, probed, WeavesPart}
 use Rattle.octo_session.specs.Data.{SessionData}
+use Rattle.octo_session_plan_proof.specs.Plan.{PrintData}
+use Rattle.octo_session_plan_proof.proofs.Rests.{longer_weaves}
+use Rattle.octo_session_plan_proof.proofs.Weaves.{part_of}
 use Rattle.octo_session_line_proof.specs.AllSent.{AreAllSent}
 use Rattle.octo_session_line_proof.specs.History.{IsMade}
 use Rattle.octo_session.specs.Tied.{HasIssued}
@@ -19,34 +22,74 @@ use Rattle.send_window.specs.Hearing.{later}
 use Rattle.send_window.specs.declared.session_end.SessionEnd.{SessionEnd}
 use Rattle.send_window.specs.declared.session_end.SessionEnd.TheVariants.{NoAnswer, AskedBack, AskedAhead, Counts, Restarted, LostOk, NumbersUsed}
 use Rattle.octo_session_print.specs.Waiting.{HasWaited}
-use Rattle.std.proofs.lemmas.List.{take_all}
+use Rattle.std.proofs.lemmas.List.{take_all, take-take}
+
+-- nothing was issued
+pub part_none : (numbered : Bool) (plan : List (List ℕ)) → WeavesPart numbered [] plan
+part_none numbered plan = record { part = []; is_part = record { rest = plan; joined = refl }; woven = empty }
+
+-- a text of the plan in front
+part_planned : (n : Bool) (text : List ℕ) (list plan : List (List ℕ)) → WeavesPart n list plan → WeavesPart n (text ∷ list) (text ∷ plan)
+part_planned n text list plan w = record {
+  part = text ∷ w.part;
+  is_part = record { rest = w.is_part.rest; joined = ap (λ (l : List (List ℕ)). text ∷ l) w.is_part.joined };
+  woven = planned text list w.part w.woven;
+}
+
+-- the first texts of a weave weave a first part of its plan
+part_first : (n : Bool) (k : ℕ) (list plan : List (List ℕ)) → Weave n list plan → WeavesPart n (take k list) plan
+part_first n zero list plan w = part_none n plan
+part_first n (suc k) _ _ empty = part_none n []
+part_first n (suc k) _ _ (planned text list plan w) = part_planned n text (take k list) plan (part_first n k list plan w)
+part_first n (suc k) _ _ (polled list plan w) =
+    let first = part_first n k list plan w in
+    record { part = first.part; is_part = first.is_part; woven = polled (take k list) first.part first.woven }
+part_first n (suc k) _ _ (probed list plan on w) =
+    let first = part_first n k list plan w in
+    record { part = first.part; is_part = first.is_part; woven = probed (take k list) first.part on first.woven }
+
+-- and so do those of a weave of such a part
+part_taken : (n : Bool) (k : ℕ) (list plan : List (List ℕ)) → WeavesPart n list plan → WeavesPart n (take k list) plan
+part_taken n k list plan w =
+    let first = part_first n k list w.part w.woven in
+    record { part = first.part; is_part = part_of first.part w.part plan first.is_part w.is_part; woven = first.woven }
 
 -- what was issued, by the plan
-pub printed_of : (kind : LinkKind) (plan : List (List ℕ)) (how : PrintEnd) (issued : List (List ℕ)) (acked : ℕ) (past added : List WorldEvent) →
-    WeavesPart issued plan → (how ≡ end.Done → Weave issued plan × (acked ≡ length issued)) →
+pub printed_of : (numbered : Bool) (kind : LinkKind) (plan : List (List ℕ)) (how : PrintEnd) (issued : List (List ℕ)) (acked : ℕ) (past added : List WorldEvent) →
+    WeavesPart numbered issued plan →
+    (how ≡ end.Done → Weave numbered issued plan × Weave numbered (take acked issued) plan × (numbered ≡ false → acked ≡ length issued)) →
     ((count : ℕ) → how ≡ end.Ended (NoAnswer count) → (count ≡ 5) × ((issued ≡ []) ⊎ (acked < length issued))) →
     ((count : ℕ) → how ≡ end.Ended (LostOk count) → (count ≡ 20) × (acked < length issued)) →
     ((all : ℕ) → how ≡ end.Ended (NumbersUsed all) → (all ≡ most_lines) × (acked ≡ most_lines)) →
     (how ≢ end.LinkFailed → AreAllSent issued acked added) → (opens added ≡ 1 → (world_in kind (past ++ added)).linked ≡ false) →
     ((why : SessionEnd) → how ≡ end.Ended why → opens added ≡ 1) →
-    HasIssued kind issued acked past added → HasPrinted kind plan how acked past added
-printed_of kind plan how issued acked past added part all unanswered missing all_used sent shut opened h = record {
-  issued = issued;
-  of_plan = part;
-  history = h;
-  done = λ is. (let whole = all is in record {
-    woven = whole.0;
-    all_executed = h.tied.executed_first
-        ∙ ap (logged_from 1) (take_all (length (executed kind.slots kind.oks (past ++ added) (suc (opens past)))) issued (omega (arith, whole.1, h.tied.acked_run)));
-    all_acked = whole.1;
-  });
-  unanswered = unanswered;
-  missing = missing;
-  all_used = all_used;
-  sent = sent;
-  shut = shut;
-  opened = opened;
-}
+    HasIssued numbered kind issued acked past added → HasPrinted numbered kind plan how acked past added
+printed_of numbered kind plan how issued acked past added part all unanswered missing all_used sent shut opened h =
+    let count : ℕ = length (executed kind.slots kind.oks (past ++ added) (suc (opens past))) in
+    record {
+      issued = issued;
+      of_plan = part;
+      history = h;
+      executed_of_plan = part_taken numbered count issued plan part;
+      done = λ is. (let whole = all is in record {
+        ran = take count issued;
+        all_executed = h.tied.executed_first;
+        woven = longer_weaves numbered issued plan acked count h.tied.acked_run whole.1 whole.0;
+        all_acked = subst (λ (l : List (List ℕ)). Weave numbered l plan) (sym (take-take acked count issued h.tied.acked_run)) whole.1;
+        all_issued = λ plain. (take_all count issued (omega (arith, whole.2 plain, h.tied.acked_run)), whole.2 plain);
+      });
+      unanswered = unanswered;
+      missing = missing;
+      all_used = all_used;
+      sent = sent;
+      shut = shut;
+      opened = opened;
+    }
+
+-- what a sender that counts as a print does has issued
+pub by_plan : (kind : LinkKind) (p : PrintData) (issued : List (List ℕ)) (x : SessionData) (past added : List WorldEvent) → x.sender.numbered ≡ p.numbered →
+    HasIssued x.sender.numbered kind issued x.sender.acked past added → HasIssued p.numbered kind issued x.sender.acked past added
+by_plan kind p issued x past added same = subst (λ (n : Bool). HasIssued n kind issued x.sender.acked past added) same
 
 none_of : {X : Type 0} (xs : List X) → length xs ≡ 0 → xs ≡ []
 none_of [] none = refl
@@ -68,10 +111,6 @@ pub missing_of : (kind : LinkKind) (issued : List (List ℕ)) (x : SessionData) 
 missing_of kind issued x past added made missing =
     let n = made.opened.traced.meets.numbers in
     omega (arith, missing.1, n.holds.count)
-
--- nothing was issued
-pub part_none : (plan : List (List ℕ)) → WeavesPart [] plan
-part_none plan = record { part = []; is_part = record { rest = plan; joined = refl }; woven = empty }
 
 -- the moment of the turn that ended the print
 pub waited_by : (how : PrintEnd) (began now : Option ℕ) (limit : ℕ) →

@@ -1,5 +1,5 @@
 -- How the turns of a print over a prompt link come to its end.
-use Rattle.std.proofs.Common.{◌≡◌, ℕ, ◌+◌, ◌-◌, ◌<◌, ◌≤◌, List, [], ◌++◌, length, refl, ◌∙◌, ap, length-append, arith}
+use Rattle.std.proofs.Common.{◌≡◌, ℕ, ◌+◌, ◌-◌, ◌<◌, ◌≤◌, false, List, [], ◌++◌, length, refl, sym, ◌∙◌, ap, length-append, arith}
 use Rattle.std.proofs.lemmas.List.{length-map}
 use Rattle.std.specs.Prelude.{Option, None, Some}
 use Rattle.gcode_lines.specs.Job.{JobData, Command, texts_of, most_bytes}
@@ -50,15 +50,16 @@ few_planned scripts job own few =
 
 -- a print that is to dial is on its way
 pub sets_out : (kind : LinkKind) (p : PrintData) (past : Option (List WorldEvent)) (before now : ℕ) (clock : Option ℕ) (x : SessionData) →
-    IsDialling p (port_of x.desk) past past x →
+    x.sender.numbered ≡ false → IsDialling p (port_of x.desk) past past x →
     IsSmooth kind past (port_of x.desk) before now clock x.sender.limit x.desk.poll_ms → plan_length p + 32 < most_lines → (at : ℕ) →
     IsOnWay kind p x.desk.poll_ms at (plan_length p + 12 - 0) past x
-sets_out kind p past before now clock x d s few at = dials (record {
+sets_out kind p past before now clock x counts d s few at = dials (record {
   dials = d.dials;
   listed = s.listed;
   recorded = s.recorded;
-  desk = record { issued = []; course = d.on.course; cool = d.on.cool; its_ms = refl };
+  desk = record { issued = []; course = d.on.course; cool = d.on.cool; its_ms = refl; plain = sym d.on.its_kind ∙ counts };
   connects = dials_at x d.dials;
+  counts = counts;
   sound = d.on.sound;
   enough = omega arith;
   few = omega (arith, few);

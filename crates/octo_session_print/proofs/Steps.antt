@@ -1,7 +1,7 @@
 -- How a turn leads a print on.
 use Rattle.std.proofs.Common.{◌≡◌, ◌≢◌, ◌↔◌, ◌⊎◌, inl, inr, ℕ, ◌≤◌, Bool, true, false, List, [], refl, sym, ◌∙◌, ap, subst, arith}
-use Rattle.std.specs.Prelude.{Option, Some, ◌&&◌, length}
-use Rattle.job_desk.specs.Data.{Data, Line}
+use Rattle.std.specs.Prelude.{Option, Some, ◌&&◌, ◌<◌, length, take}
+use Rattle.job_desk.specs.Data.{Line}
 use Rattle.job_desk.specs.declared.state.State.TheVariants.{Offline, Operational}
 use Rattle.job_desk.specs.declared.link_fact.LinkFact.{LinkFact}
 use Rattle.job_desk.specs.declared.link_fact.LinkFact.TheVariants as fact
@@ -17,9 +17,9 @@ use Rattle.octo_session.specs.Data.{SessionData, IsSession, doing, port_of}
 use Rattle.octo_session.specs.DeskTurn.{IsNoted}
 use Rattle.octo_session.specs.Found.{is_got, may_have_issued, can_find, up_after, ready_after}
 use Rattle.octo_session.specs.Steps.{after_steps, turn_steps}
-use Rattle.octo_session.specs.Turn.{IsTurn, IsDeskTurn, fact_of, note_lines, texts_in}
+use Rattle.octo_session.specs.Turn.{IsTurn, fact_of, note_lines, texts_in}
 use Rattle.octo_session.specs.declared.found.Doing.{Doing}
-use Rattle.octo_session.specs.declared.found.Doing.TheVariants.{Dialling, HangingUp, UsingLink, Resting}
+use Rattle.octo_session.specs.declared.found.Doing.TheVariants.{Dialling, Resting}
 use Rattle.octo_session.specs.declared.found.Turned.{Turned}
 use Rattle.octo_session_plan_proof.specs.Plan.{PrintData, print_commands}
 use Rattle.octo_session.specs.Plan.{plan, Weave}
@@ -30,6 +30,8 @@ use Rattle.octo_session_plan_proof.proofs.Results.{underway-part, underway-whole
 use Rattle.octo_session_line_proof.specs.Issuing.{issued_in}
 use Rattle.octo_session_line_proof.specs.Linked.{IsLinked, LinkedAs, opened}
 use Rattle.octo_session.proofs.Noting.{noted_fact, noted_lines, desk_noted}
+use Rattle.octo_session.specs.Causes.{EndCausedAs}
+use Rattle.octo_session_line_proof.proofs.Unchanged.{turn_numbered}
 use Rattle.octo_session_line_proof.proofs.Recorded.{IsKept, turn_end_caused}
 use Rattle.octo_session_line_proof.proofs.Turned.{IsTurned, dials_down, rests_down, opens_dialling}
 use Rattle.octo_session_print.specs.Ends.{IsUnsent, end_of}
@@ -37,13 +39,13 @@ use Rattle.octo_session_print.specs.Printed.{HasPrinted, IsOver}
 use Rattle.octo_session_line_proof.specs.AllSent.{AreAllSent}
 use Rattle.octo_session_line_proof.specs.History.{IsMade}
 use Rattle.send_window.specs.Patience.{FitsEnd}
-use Rattle.octo_session_print.specs.BetweenTurns.{HasSentAll, IsDialling, IsOnLink, IsBetweenTurns, GoesOn}
+use Rattle.octo_session_print.specs.BetweenTurns.{HasSentAll, IsOnCourse, IsDialling, IsOnLink, IsBetweenTurns, GoesOn}
 use Rattle.octo_session_print.specs.declared.end.PrintEnd.{PrintEnd}
 use Rattle.octo_session_print.specs.declared.end.PrintEnd.TheVariants as end
 use Rattle.octo_session_line_proof.proofs.AllSent.{none_unsent}
 use Rattle.octo_session_line_proof.proofs.Sent.{made_sends}
 use Rattle.octo_session_line_proof.proofs.Histories.{none_printed, nothing_added}
-use Rattle.octo_session_print.proofs.Printing.{printed_of, unanswered_of, missing_of, part_none}
+use Rattle.octo_session_print.proofs.Printing.{printed_of, unanswered_of, missing_of, part_none, by_plan}
 use Rattle.octo_session_line_proof.proofs.Turns.{ports_dialling, turned_all, made_on, made_now, none_made, none_added, made_printed}
 use Rattle.octo_session_print.proofs.Course.{closed_off}
 use Rattle.octo_session_line_proof.proofs.Lasting.{sound_steps, ended_turn}
@@ -90,6 +92,13 @@ module _ (moment : ℕ) (kind : LinkKind) (old_past new_past : Option (List Worl
       let S : SenderData → Type 0 = λ s. IsSound s in
       subst S (sym h.turn.steps.takes.sender) (sound_steps moment (turn_steps (doing old) old.up h.turn.got h.turn.found texts h.turn.steps.count) old.sender h.turn.steps.takes.allowed was)
 
+  -- the sender counts as before
+  numbered_stays : mid.sender.numbered ≡ old.sender.numbered
+  numbered_stays = turn_numbered moment kind old_past new_past old_calls new_calls old mid turned h.turn
+
+  kind_stays : {issued : List (List ℕ)} → IsOnCourse p issued old → mid.sender.numbered ≡ p.numbered
+  kind_stays on = numbered_stays ∙ on.its_kind
+
   -- the course of the turn
   course : (issued : List (List ℕ)) → IsUnderway p old.desk issued →
       IsTurnOf p (fact_of turned.note) (note_lines turned.note) issued old.desk turned.ending mid.desk
@@ -104,16 +113,16 @@ module _ (moment : ℕ) (kind : LinkKind) (old_past new_past : Option (List Worl
 
   -- the turn dials, and makes no link
   dial_over : (how : PrintEnd) → IsDialling p port first old_past old → (h.turn.found ≡ fact.Opened → ⊥) → (how ≡ end.Done → ⊥) →
-      ((why : SessionEnd) → how ≡ end.Ended why → ⊥) → (IsUnsent how → h.turn.found ≡ fact.NoPort) → IsOver kind whole how first new_past mid
+      ((why : SessionEnd) → how ≡ end.Ended why → ⊥) → (IsUnsent how → h.turn.found ≡ fact.NoPort) → IsOver p.numbered kind whole how first new_past mid
   dial_over how d other undone unended none_sent =
-      let P : List WorldEvent → List WorldEvent → Type 0 = λ past added. HasPrinted kind whole how mid.sender.acked past added in
+      let P : List WorldEvent → List WorldEvent → Type 0 = λ past added. HasPrinted p.numbered kind whole how mid.sender.acked past added in
       let F : Option (List WorldEvent) → Type 0 = λ f. Recorded f new_past P in
       let printed : (past added : List WorldEvent) → IsTurned moment kind old mid h.turn.got h.turn.found texts (world_in kind past) added → P past added =
       λ past added t. (let none = none_made moment kind old mid h.turn.got h.turn.found texts past added other d.dials t in
-      let A : ℕ → Type 0 = λ n. HasPrinted kind whole how n past added in
+      let A : ℕ → Type 0 = λ n. HasPrinted p.numbered kind whole how n past added in
       subst A (sym (ap (λ (s : SenderData). s.acked) none.1 ∙ d.none_acked))
-      (printed_of kind whole how [] 0 past added (part_none whole) (λ is. absurd (undone is)) (λ count is. absurd (unended (NoAnswer count) is)) (λ count is. absurd (unended (LostOk count) is)) (λ all is. absurd (unended (NumbersUsed all) is))
-      (λ whole_turn. none_unsent 0 added) (λ one. absurd (omega (arith, one, none.0))) (λ why is. absurd (unended why is)) (none_printed kind past added none.0)))
+      (printed_of p.numbered kind whole how [] 0 past added (part_none p.numbered whole) (λ is. absurd (undone is)) (λ count is. absurd (unended (NoAnswer count) is)) (λ count is. absurd (unended (LostOk count) is)) (λ all is. absurd (unended (NumbersUsed all) is))
+      (λ whole_turn. none_unsent 0 added) (λ one. absurd (omega (arith, one, none.0))) (λ why is. absurd (unended why is)) (none_printed p.numbered kind past added none.0)))
       in
       record {
         printed = subst F d.nothing (recorded_so old_past new_past
@@ -126,7 +135,7 @@ module _ (moment : ℕ) (kind : LinkKind) (old_past new_past : Option (List Worl
       }
 
   -- the turn makes the link
-  dial_made : SuitsAs false first kind.oks → IsDialling p port first old_past old → fact_of turned.note ≡ fact.Opened → IsOnLink kind p port first new_past mid
+  dial_made : SuitsAs old.sender.numbered first kind.oks → IsDialling p port first old_past old → fact_of turned.note ≡ fact.Opened → IsOnLink kind p port first new_past mid
   dial_made suits d is =
       let found : h.turn.found ≡ fact.Opened = sym its_fact ∙ is in
       let P : List WorldEvent → List WorldEvent → Type 0 = λ past added. HasSentAll kind [] mid past added in
@@ -135,7 +144,7 @@ module _ (moment : ℕ) (kind : LinkKind) (old_past new_past : Option (List Worl
       let opened_course : IsUnderway p mid.desk [] = subst I found (underway [] d.on.course) in
       record {
         issued = [];
-        on = record { course = opened_course; cool = d.on.cool; sound = sound d.on.sound };
+        on = record { course = opened_course; cool = d.on.cool; its_kind = kind_stays d.on; sound = sound d.on.sound };
         up = h.kept.up ∙ ap (λ (f : LinkFact). up_after f old.up) is;
         listed = listed_by (kind.listed port) refl;
         history = subst F d.nothing (recorded_if old_past new_past
@@ -160,7 +169,7 @@ module _ (moment : ℕ) (kind : LinkKind) (old_past new_past : Option (List Worl
       let no : true ≡ false = sym yes ∙ none in
       absurd (cc)
 
-  dial_goes : SuitsAs false first kind.oks → IsDialling p port first old_past old → (f : LinkFact) → fact_of turned.note ≡ f → GoesOn kind p port (end_of f) first new_past mid
+  dial_goes : SuitsAs old.sender.numbered first kind.oks → IsDialling p port first old_past old → (f : LinkFact) → fact_of turned.note ≡ f → GoesOn kind p port (end_of f) first new_past mid
   dial_goes suits d fact.Opened is = dial_made suits d is
   dial_goes suits d fact.NoPort is = dial_over end.NoPort d (λ opens. (let no : fact.NoPort ≡ fact.Opened = sym is ∙ its_fact ∙ opens in absurd (cc))) (λ e. absurd (cc)) (λ why e. absurd (cc)) (λ none. sym its_fact ∙ is)
   dial_goes suits d fact.Failed is = dial_over end.LinkFailed d (λ opens. (let no : fact.Failed ≡ fact.Opened = sym is ∙ its_fact ∙ opens in absurd (cc))) (λ e. absurd (cc)) (λ why e. absurd (cc)) (λ none. absurd none)
@@ -214,36 +223,41 @@ module _ (moment : ℕ) (kind : LinkKind) (old_past new_past : Option (List Worl
 
   -- a print that is done has issued the whole plan, and all of it is acknowledged
   talk_whole : (l : IsOnLink kind p port first old_past old) → h.turn.found ≡ fact.Closed →
-      Weave (issued_in h.turn.found texts l.issued) whole × (mid.sender.acked ≡ length (issued_in h.turn.found texts l.issued))
+      Weave p.numbered (issued_in h.turn.found texts l.issued) whole
+      × Weave p.numbered (take mid.sender.acked (issued_in h.turn.found texts l.issued)) whole
+      × (p.numbered ≡ false → mid.sender.acked ≡ length (issued_in h.turn.found texts l.issued))
   talk_whole l closed =
       let N : LinkFact → Type 0 = λ f. IsNoted moment mid.sender.acked f h.turn.lines old.desk turned.ending mid.desk in
       let n : IsNoted moment mid.sender.acked fact.Closed h.turn.lines old.desk turned.ending mid.desk = subst N closed (noted (λ rests. up_clash l (rests_down old rests))) in
       let off : mid.desk.state ≡ Offline = closed_off moment mid.sender.acked h.turn.lines old.desk turned.ending mid.desk (no_lines (ap may_have_issued closed))
       l.on.course.unstopped n in
       let done = underway-whole p mid.desk (issued_in h.turn.found texts l.issued) off (underway l.issued l.on.course) in
-      let s : IsSound mid.sender = sound l.on.sound in (
+      let s : IsSound mid.sender = sound l.on.sound in
+      let below : mid.desk.issued < 18446744073709551615 = omega (arith, h.joined.issued, s.few) in
+      let A : ℕ → Type 0 = λ n. Weave p.numbered (take n (issued_in h.turn.found texts l.issued)) whole in (
         done.woven,
-        omega (arith, done.acknowledged, done.all (omega (arith, h.joined.issued, s.few)), h.joined.issued, h.joined.acked, s.counted),
+        subst A h.joined.acked (done.acknowledged below),
+        λ plain. omega (arith, done.all_acked plain, done.all below, h.joined.issued, h.joined.acked, s.counted),
       )
 
   talk_over : (how : PrintEnd) → IsOnLink kind p port first old_past old → (how ≡ end.Done → h.turn.found ≡ fact.Closed) →
       ((why : SessionEnd) → how ≡ end.Ended why → fact_of turned.note ≡ fact.Ended why) → (IsUnsent how → ⊥) → (how ≢ end.LinkFailed → h.turn.found ≡ fact.Failed → ⊥) →
-      mid.up ≡ false → IsOver kind whole how first new_past mid
+      mid.up ≡ false → IsOver p.numbered kind whole how first new_past mid
   talk_over how l closed ends sent whole_turn down =
       let now : List (List ℕ) = issued_in h.turn.found texts l.issued in
       record {
         printed = recorded_so first new_past (λ past added. IsMade kind now mid past added × (how ≢ end.LinkFailed → AreAllSent now mid.sender.acked added))
-            (λ past added. HasPrinted kind whole how mid.sender.acked past added) (talk_made (how ≢ end.LinkFailed) l whole_turn)
-            (λ past added so. printed_of kind whole how now mid.sender.acked past added (underway-part p mid.desk now (underway l.issued l.on.course))
+            (λ past added. HasPrinted p.numbered kind whole how mid.sender.acked past added) (talk_made (how ≢ end.LinkFailed) l whole_turn)
+            (λ past added so. printed_of p.numbered kind whole how now mid.sender.acked past added (underway-part p mid.desk now (underway l.issued l.on.course))
             (λ done. talk_whole l (closed done))
             (λ count is. (let fits = h.fits (NoAnswer count) (ends (NoAnswer count) is) in (fits.0, unanswered_of kind now mid past added so.0 fits.1)))
             (λ count is. (let fits = h.fits (LostOk count) (ends (LostOk count) is) in (fits.0, missing_of kind now mid past added so.0 fits.1)))
             (λ all is. h.fits (NumbersUsed all) (ends (NumbersUsed all) is)) so.1 (λ one. so.0.opened.open_as ∙ down) (λ why is. so.0.once)
-            (made_printed kind now mid past added so.0));
+            (by_plan kind p now mid past added (kind_stays l.on) (made_printed kind now mid past added so.0)));
         ended = λ why is. record {
           its_end = talk_ended why (sym its_fact ∙ ends why is);
           fits = h.fits why (ends why is);
-          caused = turn_end_caused moment kind old_past new_past old_calls new_calls old mid turned h.turn h.kept why (ends why is) l.issued (talk_linked l);
+          caused = (let K : Bool → Type 0 = λ b. EndCausedAs b kind new_past why in subst K (sym numbered_stays) (turn_end_caused moment kind old_past new_past old_calls new_calls old mid turned h.turn h.kept why (ends why is) l.issued (talk_linked l)));
         };
         unsent = λ none. absurd (sent none);
       }
@@ -251,7 +265,7 @@ module _ (moment : ℕ) (kind : LinkKind) (old_past new_past : Option (List Worl
   talk_on : (l : IsOnLink kind p port first old_past old) → mid.up ≡ true → (h.turn.found ≡ fact.Failed → ⊥) → IsOnLink kind p port first new_past mid
   talk_on l up whole_turn = record {
     issued = issued_in h.turn.found texts l.issued;
-    on = record { course = (underway l.issued l.on.course); cool = l.on.cool; sound = sound l.on.sound };
+    on = record { course = (underway l.issued l.on.course); cool = l.on.cool; its_kind = kind_stays l.on; sound = sound l.on.sound };
     up = up;
     listed = l.listed;
     history = recorded_so first new_past
@@ -291,7 +305,7 @@ module _ (moment : ℕ) (kind : LinkKind) (old_past new_past : Option (List Worl
       (λ whole. unbroken (fact.Ended ends) is (λ e. absurd (cc))) (h.kept.up ∙ ap (λ (f : LinkFact). up_after f old.up) is)
 
   -- a turn leads a print on, or ends it
-  pub turn_goes : SuitsAs false first kind.oks → IsBetweenTurns kind p port first old_past old → GoesOn kind p port (end_of (fact_of turned.note)) first new_past mid
+  pub turn_goes : SuitsAs old.sender.numbered first kind.oks → IsBetweenTurns kind p port first old_past old → GoesOn kind p port (end_of (fact_of turned.note)) first new_past mid
   turn_goes suits (inl d) = dial_goes suits d (fact_of turned.note) refl
   turn_goes suits (inr l) = talk_goes l (fact_of turned.note) refl
 

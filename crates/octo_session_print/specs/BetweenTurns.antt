@@ -19,6 +19,8 @@ pub record IsOnCourse (p : PrintData) (issued : List (List ℕ)) (x : SessionDat
   pub course : IsUnderway p x.desk issued
   -- no command is too hot
   pub cool : first_hot_of p.limits p.file.job.commands ≡ None
+  -- the sender counts by the numbers of `ok`s exactly if the desk probes
+  pub its_kind : x.sender.numbered ≡ p.numbered
   pub sound : IsSound x.sender
 
 -- the next turn dials: nothing has happened yet
@@ -56,4 +58,4 @@ IsBetweenTurns kind p port first now x = IsDialling p port first now x ⊎ IsOnL
 -- what a turn has left: a print that goes on or that ended so
 abbrev pub GoesOn : LinkKind → PrintData → List ℕ → Option PrintEnd → Option (List WorldEvent) → Option (List WorldEvent) → SessionData → Type 0
 GoesOn kind p port None first now x = IsOnLink kind p port first now x
-GoesOn kind p port (Some how) first now x = IsOver kind (plan p.scripts (print_commands p)) how first now x
+GoesOn kind p port (Some how) first now x = IsOver p.numbered kind (plan p.scripts (print_commands p)) how first now x

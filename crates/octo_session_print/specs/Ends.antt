@@ -1,7 +1,7 @@
 -- What follows of a turn of a print.
-use Rattle.std.specs.Prelude.{◌≡◌, ◌≢◌, ◌≤◌, ℕ, Bool, true, false, List, Option, None, Some}
+use Rattle.std.specs.Prelude.{◌≡◌, ◌≢◌, ◌≤◌, ℕ, Bool, true, false, Option, None, Some}
 use Rattle.job_desk.specs.Data.{Data, File, new_desk}
-use Rattle.job_desk.specs.Table.{connect_at, disconnect_at, select_at, start_at}
+use Rattle.job_desk.specs.Table.{disconnect_at, start_at}
 use Rattle.job_desk.specs.declared.link_fact.LinkFact.{LinkFact}
 use Rattle.job_desk.specs.declared.link_fact.LinkFact.TheVariants as fact
 use Rattle.print_queue.specs.declared.ending.Ending.{Ending}
@@ -11,18 +11,19 @@ use Rattle.temp_rules.specs.declared.job.HotLine.{HotLine}
 use Rattle.octo_session_plan_proof.specs.Plan.{PrintData}
 use Rattle.octo_session_print.specs.declared.end.PrintEnd.{PrintEnd}
 use Rattle.octo_session_print.specs.declared.end.PrintEnd.TheVariants as end
-use Rattle.octo_session_plan_proof.specs.Progress.{after_select}
 
 -- a session at which nothing was done yet
 pub record IsNew (x : SessionData) : Type 0 where
-  pub its_desk : x.desk ≡ new_desk x.desk.scripts x.desk.limits x.desk.poll_ms
-  pub its_sender : x.sender ≡ new_sender x.sender.window x.sender.limit
+  pub its_desk : x.desk ≡ new_desk x.desk.scripts x.desk.limits x.desk.poll_ms x.desk.numbered
+  pub its_sender : x.sender ≡ new_sender x.sender.window x.sender.numbered x.sender.limit
+  -- the desk probes a printer exactly if the sender counts by the numbers of its `ok`s
+  pub kind : x.desk.numbered ≡ x.sender.numbered
   pub sound : IsSound x.sender
   pub down : x.up ≡ false
 
 -- what a desk prints of a file
 abbrev pub print_of : Data → File → PrintData
-print_of d file = record { scripts = d.scripts; limits = d.limits; file = file }
+print_of d file = record { numbered = d.numbered; scripts = d.scripts; limits = d.limits; file = file }
 
 -- a print ends as too hot exactly if a command is, and names the first one
 abbrev pub IsTooHot : Option HotLine → PrintEnd → Type 0

@@ -59,13 +59,14 @@ pub fn run_print<L: Link, T: Clock>(
 ) -> PrintEnd
     requires new { IsNew session.old }
     requires down { L.up link.old ≡ false }
-    requires suits { SuitsAs false (L.past link.old) (L.kind link.old).oks }
+    requires suits { SuitsAs session.old.sender.numbered (L.past link.old) (L.kind link.old).oks }
 
-    // If the link records its history: a prefix of the plan was issued, with `M105` put in, and a prefix of that was executed, in one
-    // session at most. Each line sent in it is the hello or wasn't acknowledged then. All was executed if the print is done.
+    // If the link records its history: a prefix of the plan was issued, with `M105` put in, and `M400` if `ok`s have numbers, and
+    // a prefix of that was executed, in one session at most. Each line sent in it is the hello or wasn't acknowledged then. If the
+    // print is done, all of the plan was executed and acknowledged.
     ensures printed { Recorded (L.past link.old) (L.past link.new)
-        (HasPrinted (L.kind link.old) (plan session.old.desk.scripts (texts_of job))
-        result session.new.sender.acked) }
+        (HasPrinted session.old.sender.numbered (L.kind link.old)
+        (plan session.old.desk.scripts (texts_of job)) result session.new.sender.acked) }
 
     // Each end by its cause; that of `LinkFailed` is in `counts` below.
     ensures too_hot { IsTooHot (first_hot_of session.old.desk.limits job.commands) result }
@@ -79,8 +80,9 @@ pub fn run_print<L: Link, T: Clock>(
     ensures used { (made : ℕ) → result ≡ end.TurnsUsed made
         → (made ≡ turns) × RoseBy turns (L.calls link.old) (L.calls link.new) }
 
-    // Over a prompt link a print is done if it has 32 turns more than its plan has lines.
-    ensures prompt { first_hot_of session.old.desk.limits job.commands ≡ None
+    // Over a prompt link a print is done if it has 32 turns more than its plan has lines, if `ok`s are counted.
+    ensures prompt { session.old.sender.numbered ≡ false
+        → first_hot_of session.old.desk.limits job.commands ≡ None
         → IsSmooth (L.kind link.old) (L.past link.old) port.now
         (L.faults link.old) (L.faults link.new)
         (T.moment clock.new) session.old.sender.limit session.old.desk.poll_ms
@@ -89,6 +91,7 @@ pub fn run_print<L: Link, T: Clock>(
     // The link afterwards, and that a print which had no port added nothing. One that was too hot left all as it was.
     ensures down { L.up link.new ≡ false }
     ensures kind { L.kind link.new ≡ L.kind link.old }
+    ensures numbered { session.new.sender.numbered ≡ session.old.sender.numbered }
     ensures counts { Counts (result ≡ end.LinkFailed) (L.faults link.old) (L.faults link.new) }
     ensures unsent { IsUnsent result → L.past link.new ≡ L.past link.old }
     ensures refused { is_too_hot result ≡ true → session.new ≡ session.old }
@@ -130,14 +133,14 @@ fn make_turns<L: Link, T: Clock>(
 ) -> PrintEnd
     requires as_up { L.up link.old ≡ session.old.up }
     requires begins { HasBegun (L.past link.old) session.old }
-    requires suits { SuitsAs false (L.past link.old) (L.kind link.old).oks }
+    requires suits { SuitsAs session.old.sender.numbered (L.past link.old) (L.kind link.old).oks }
     requires on_time { IsOnTime (T.moment clock.old) (T.moment clock.old) 0
         session.old.sender.limit session.old.sender }
 
     // How the print ends.
     ensures over { (p : PrintData)
         → IsDialling p (port_of session.old.desk) (L.past link.old) (L.past link.old) session.old
-        → IsOver (L.kind link.old) (plan p.scripts (print_commands p)) result
+        → IsOver p.numbered (L.kind link.old) (plan p.scripts (print_commands p)) result
         (L.past link.old) (L.past link.new) session.new }
     ensures no_port { (result ≡ end.NoPort)
         ↔ ((1 ≤ turns) × ((L.kind link.old).listed (port_of session.old.desk) ≡ false)) }
@@ -145,6 +148,7 @@ fn make_turns<L: Link, T: Clock>(
     // The link after it, and how many calls were made.
     ensures down { L.up link.new ≡ false }
     ensures kind { L.kind link.new ≡ L.kind link.old }
+    ensures numbered { session.new.sender.numbered ≡ session.old.sender.numbered }
     ensures counts { Counts (result ≡ end.LinkFailed) (L.faults link.old) (L.faults link.new) }
     ensures used { (made : ℕ) → result ≡ end.TurnsUsed made
         → (made ≡ turns) × RoseBy turns (L.calls link.old) (L.calls link.new) }
@@ -152,7 +156,7 @@ fn make_turns<L: Link, T: Clock>(
     // How long it takes, and which end it never comes to.
     ensures waited { HasWaited result (T.moment clock.old)
         session.old.sender.limit (T.moment clock.new) }
-    ensures prompt { (p : PrintData)
+    ensures prompt { (p : PrintData) → session.old.sender.numbered ≡ false
         → IsDialling p (port_of session.old.desk) (L.past link.old) (L.past link.old) session.old
         → IsSmooth (L.kind link.old) (L.past link.old) (port_of session.old.desk)
         (L.faults link.old) (L.faults link.new) (T.moment clock.new)
@@ -184,7 +188,8 @@ fn make_turn<L: Link, T: Clock>(
 
     // Whether the print goes on.
     ensures goes { (p : PrintData) (port : List ℕ) (first : Option (List WorldEvent)) (limit : ℕ)
-        → IsPatient 0 limit session.old.sender → SuitsAs false first (L.kind link.old).oks
+        → IsPatient 0 limit session.old.sender
+        → SuitsAs session.old.sender.numbered first (L.kind link.old).oks
         → IsBetweenTurns (L.kind link.old) p port first (L.past link.old) session.old
         → GoesOn (L.kind link.old) p port result first (L.past link.new) session.new }
     ensures no_port { (result ≡ Some end.NoPort) ↔ ((doing session.old ≡ now_doing.Dialling)
@@ -209,6 +214,7 @@ fn make_turn<L: Link, T: Clock>(
         → start ≤ moment → IsPatient start limit session.old.sender
         → result ≡ Some (end.Ended (LostOk count)) → later start (most_told * limit) ≤ moment }
     ensures clock { NotBefore (T.moment clock.old) (T.moment clock.new) }
+    ensures numbered { session.new.sender.numbered ≡ session.old.sender.numbered }
 
     // Over a prompt link; and which end it never comes to.
     ensures prompt { (p : PrintData) (poll_ms at left : ℕ)

@@ -2,7 +2,10 @@
 ghost use Rattle.std.specs.Prelude.{◌≤◌};
 ghost use Rattle.octo_session_demo.specs.declared.file.TheConstants.{MOST_COMMANDS};
 
-use octo_session_demo::{DemoCounts, Draws, demo_file, demo_job, demo_schedule, run_demo, summary};
+use octo_outside::calls_of;
+use octo_session_demo::{
+    Demo, DemoCounts, Draws, demo_file, demo_job, demo_schedule, run_demo, summary,
+};
 use octo_session_print::PrintEnd;
 use printer_link::Fate;
 use std::alloc::Global;
@@ -46,7 +49,7 @@ fn has_fates(
 ) -> Result<(), Fail>
     requires { commands ≤ MOST_COMMANDS }
 {
-    let schedule = demo_schedule(alloc, seed, commands)?;
+    let schedule = demo_schedule(alloc, seed, commands, None)?;
     check_fates(rt, schedule.fates.as_slice(), letters);
     assert_eq!(rt; schedule.fates.as_slice().len(), count);
     Ok(())
@@ -110,7 +113,7 @@ fn all_commands(rt: HostRuntime) -> Result<(), Fail> {
 // The printer of a demo has the line number 4 at first. The hello sets another one, so nothing else shows it.
 #[test]
 fn first_number(rt: HostRuntime) -> Result<(), Fail> {
-    let demo = run_demo(rt.alloc(), 1, 3)?;
+    let demo = run_demo(rt.alloc(), 1, 3, None)?;
     assert_eq!(&rt; demo.link.first_number(), 4);
     Ok(())
 }
@@ -126,11 +129,35 @@ fn comes_to(
     requires seed { seed ≤ 2147483647 }
     requires commands { commands ≤ MOST_COMMANDS }
 {
-    let demo = run_demo(alloc, seed, commands)?;
+    let demo = run_demo(alloc, seed, commands, None)?;
+    check_demo(rt, &demo, wanted)
+}
+
+// A demo was printed, and its printer ran, got and missed these numbers of lines.
+fn check_demo(rt: &impl Abort, demo: &Demo, wanted: (u64, u64, u64)) -> Result<(), Fail> {
     assert_eq!(rt; demo.end, PrintEnd::Done);
     let counts = demo.counts()?;
     assert_eq!(rt; (counts.executed, counts.sent, counts.faults), wanted);
     Ok(())
+}
+
+// The same of a demo that loses these replies.
+fn loses(
+    rt: &impl Abort,
+    alloc: Global,
+    lost: &[u64],
+    wanted: (u64, u64, u64),
+) -> Result<(), Fail> {
+    let demo = run_demo(alloc, 1, 3, Some(calls_of(alloc, lost)?))?;
+    check_demo(rt, &demo, wanted)
+}
+
+// A demo without a lost reply over a printer whose `ok`s have numbers, and demos that lose some.
+#[test]
+fn lost_replies(rt: HostRuntime) -> Result<(), Fail> {
+    loses(&rt, rt.alloc(), &[], (3, 8, 2))?;
+    loses(&rt, rt.alloc(), &[2], (3, 8, 2))?;
+    loses(&rt, rt.alloc(), &[3], (4, 12, 3))
 }
 
 #[test]

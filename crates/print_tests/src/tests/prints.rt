@@ -4,6 +4,7 @@ ghost use Rattle.octo_session_print.specs.Ends.{IsNew};
 ghost use Rattle.printer_link.specs.Suits.{SuitsAs};
 
 mod ends;
+mod losses;
 mod scripts;
 
 use super::makers::{SOUND, Wire, check_first, link_of, plain_session, scripts_of};
@@ -64,7 +65,7 @@ fn print_over<L: Link>(
 ) -> Result<PrintEnd, Fail>
     requires new { IsNew session.old }
     requires down { L.up link.old ≡ false }
-    requires suits { SuitsAs false (L.past link.old) (L.kind link.old).oks }
+    requires suits { SuitsAs session.old.sender.numbered (L.past link.old) (L.kind link.old).oks }
 {
     let port = Name::of("p")?;
     let name = Name::of("a.gcode")?;

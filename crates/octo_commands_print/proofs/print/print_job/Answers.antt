@@ -11,7 +11,7 @@ returns-in-Ok-clause-run g c =
       how = c.run_print-end.result;
       is = c.report_of.ensures c.args.job (omega (arith, c.count-commands.ensures.value, c.count-commands.ensures.few)) c.skipped-skipped.ensures.value;
       run = ran (g.L.Link.kind c.args.link.now) c.args.settings c.args.job (over_port c.args.port.now c.args.turns) seen c.in-Ok.session c.run_print-end.new.session c.run_print-end.result
-          c.in-Ok.ensures.desk c.in-Ok.ensures.sender c.requires.cool
+          c.in-Ok.ensures.desk c.in-Ok.ensures.sender e.numbered c.requires.cool
           e.printed e.too_hot e.no_port e.ended (λ made is. (e.used made is).0) e.unsent e.prompt;
     })
 

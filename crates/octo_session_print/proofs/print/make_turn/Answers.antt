@@ -11,6 +11,7 @@ use Rattle.send_window.specs.declared.session_end.SessionEnd.TheVariants.{NoAnsw
 use Rattle.octo_session.specs.Data.{doing}
 use Rattle.octo_session.specs.Found.{can_find}
 use Rattle.octo_session.proofs.Noting.{noted_fact}
+use Rattle.octo_session_line_proof.proofs.Unchanged.{turn_numbered}
 use Rattle.octo_session_line_proof.proofs.Recorded.{kept_by_note}
 use Rattle.send_window.specs.Patience.{IsPatient}
 use Rattle.octo_session_line_proof.proofs.Numbers.{turn_fits}
@@ -64,6 +65,11 @@ pub returns-clause-waits : goal.returns-clause-waits
 returns-clause-waits g c start limit since p =
     let S : SessionData → Type 0 = λ x. IsPatient start limit x.sender in
     subst S (sym c.go_on.ensures.after) (turn_patient c.args.moment _ _ _ _ _ c.args.session.now c.turn-turned.new.self c.turn-turned.result c.turn-turned.ensures.turn start limit since p)
+
+pub returns-clause-numbered : goal.returns-clause-numbered
+returns-clause-numbered g c =
+    let S : SessionData → Type 0 = λ x. x.sender.numbered ≡ c.args.session.now.sender.numbered in
+    subst S (sym c.go_on.ensures.after) (turn_numbered c.args.moment _ _ _ _ _ c.args.session.now c.turn-turned.new.self c.turn-turned.result c.turn-turned.ensures.turn)
 
 pub returns-clause-waited : goal.returns-clause-waited
 returns-clause-waited g c start limit count since p is =

@@ -24,7 +24,8 @@ loop-init g c = record {
   kind = refl;
   calls = rose_none (g.L.Link.calls c.args.link.now);
   on_time = c.requires.on_time;
-  prompt = λ p dialling smooth few at shown. sets_out _ p _ _ _ _ c.args.session.now dialling smooth few at;
+  numbered = refl;
+  prompt = λ p counts dialling smooth few at shown. sets_out _ p _ _ _ _ c.args.session.now counts dialling smooth few at;
   counted = omega arith;
 }
 
@@ -41,16 +42,17 @@ loop-preserved g c =
     let port = port_of c.args.session.now.desk in
     let now = g.L.Link.past c.loop.link in
     let b = c.requires.begins in
-    let suits = suits_still (g.L.Link.kind c.args.link.now) kind first i.kind c.requires.suits in
+    let suits = suits_still (g.L.Link.kind c.args.link.now) kind first c.args.session.now.sender.numbered c.loop.session.sender.numbered i.kind i.numbered c.requires.suits in
     record {
       up = c.in-None.ensures.up refl;
       way = λ p dialling. (let K : LinkKind → Type 0 = λ k. IsOnLink k p port first (g.L.Link.past c.make_turn.new.link) c.make_turn.new.session in
           inr (subst K (sym c.make_turn.ensures.kind) (c.in-None.ensures.goes p port first c.args.session.now.sender.limit i.on_time.patient suits (under c.loop.counter kind p port first now c.loop.session (i.way p dialling)))));
       kind = c.make_turn.ensures.kind ∙ i.kind;
+      numbered = c.make_turn.ensures.numbered ∙ i.numbered;
       calls = rose_then c.loop.counter 1 (g.L.Link.calls c.args.link.now) (g.L.Link.calls c.loop.link) _ i.calls (c.in-None.ensures.calls (awake c.loop.counter kind b.print port first now c.loop.session (i.way b.print b.dialling)) refl);
       on_time = on_time_next _ _ _ _ _ _ _ _ _ _ i.on_time c.now.ensures.now c.now.ensures.stays c.make_turn.ensures.clock c.max-moment.ensures
           (λ start since p. c.make_turn.ensures.waits start c.args.session.now.sender.limit since p);
-      prompt = λ p dialling smooth few at shown. (let so = shown_before _ _ _ _ _ _ _ c.now.ensures.now c.now.ensures.stays c.make_turn.ensures.clock c.max-moment.ensures i.on_time.shown shown in
+      prompt = λ p counts dialling smooth few at shown. (let so = shown_before _ _ _ _ _ _ _ c.now.ensures.now c.now.ensures.stays c.make_turn.ensures.clock c.max-moment.ensures i.on_time.shown shown in
           let last = last_is _ at _ _ shown smooth.unsaturated in
           let was = smooth_before _ _ port _ (g.L.Link.faults c.loop.link) _ (g.T.Clock.moment c.loop.clock) _ _ _ _ i.counted c.make_turn.ensures.counts.later so.before_is smooth (omega (arith, so.within, last)) in
           let left : ℕ = plan_length p + 12 - c.loop.counter in
@@ -59,7 +61,7 @@ loop-preserved g c =
           c.in-None.ensures.prompt p ms at left (ap (λ (k : LinkKind). k.prompt) i.kind ∙ smooth.prompt)
           (steady_after _ (g.L.Link.faults c.loop.link) _ smooth.steady i.counted c.make_turn.ensures.counts.later)
           (range_now _ _ c.loop.session.sender.limit _ _ i.on_time.patient.its_limit smooth.unsaturated (omega (arith, so.within, last)))
-          so.between_is shown (i.prompt p dialling was few _ so.before_is)
+          so.between_is shown (i.prompt p counts dialling was few _ so.before_is)
           in
           let K : LinkKind → Type 0 = λ k. IsOnWay k p ms at (left - 1) (g.L.Link.past c.make_turn.new.link) c.make_turn.new.session in
           let N : ℕ → Type 0 = λ n. IsOnWay (g.L.Link.kind c.make_turn.new.link) p ms at n (g.L.Link.past c.make_turn.new.link) c.make_turn.new.session in
@@ -74,10 +76,16 @@ returns-in-Some-clause-over g c p dialling =
     let kind = g.L.Link.kind c.loop.link in
     let first = g.L.Link.past c.args.link.now in
     let port = port_of c.args.session.now.desk in
-    let suits = suits_still (g.L.Link.kind c.args.link.now) kind first i.kind c.requires.suits in
+    let suits = suits_still (g.L.Link.kind c.args.link.now) kind first c.args.session.now.sender.numbered c.loop.session.sender.numbered i.kind i.numbered c.requires.suits in
     let over = c.in-Some.ensures.goes p port first c.args.session.now.sender.limit i.on_time.patient suits (under c.loop.counter kind p port first (g.L.Link.past c.loop.link) c.loop.session (i.way p dialling)) in
-    let K : LinkKind → Type 0 = λ k. IsOver k (plan p.scripts (print_commands p)) c.in-Some.end first (g.L.Link.past c.make_turn.new.link) c.make_turn.new.session in
+    let K : LinkKind → Type 0 = λ k. IsOver p.numbered k (plan p.scripts (print_commands p)) c.in-Some.end first (g.L.Link.past c.make_turn.new.link) c.make_turn.new.session in
     subst K i.kind over
+
+pub returns-in-Some-clause-numbered : goal.returns-in-Some-clause-numbered
+returns-in-Some-clause-numbered g c = c.make_turn.ensures.numbered ∙ c.loop.invariant.numbered
+
+pub returns-clause-numbered : goal.returns-clause-numbered
+returns-clause-numbered g c = c.loop.invariant.numbered
 
 pub returns-in-Some-clause-no_port : goal.returns-in-Some-clause-no_port
 returns-in-Some-clause-no_port g c =
@@ -114,7 +122,7 @@ returns-clause-over g c p dialling =
     let port = port_of c.args.session.now.desk in
     let B : Bool → Type 0 = λ b. Grows kind (g.L.Link.past c.loop.link) (g.L.Link.past c.hang_up.new.self) (IsHangUp b) in
     let over = hung_over c.loop.counter kind p port first _ c.loop.session c.args.turns _ (i.way p dialling) (subst B i.up c.hang_up.ensures.past) in
-    let K : LinkKind → Type 0 = λ k. IsOver k (plan p.scripts (print_commands p)) (end.TurnsUsed c.args.turns) first (g.L.Link.past c.hang_up.new.self) c.loop.session in
+    let K : LinkKind → Type 0 = λ k. IsOver p.numbered k (plan p.scripts (print_commands p)) (end.TurnsUsed c.args.turns) first (g.L.Link.past c.hang_up.new.self) c.loop.session in
     subst K i.kind over
 
 pub returns-clause-no_port : goal.returns-clause-no_port
@@ -152,7 +160,7 @@ returns-in-Some-clause-waited g c =
     omega (arith, missed, so.1)))
 
 pub returns-in-Some-clause-prompt : goal.returns-in-Some-clause-prompt
-returns-in-Some-clause-prompt g c p dialling smooth few enough =
+returns-in-Some-clause-prompt g c p counts dialling smooth few enough =
     let i = c.loop.invariant in
     let at = smooth.unsaturated.last in
     let so = shown_before _ _ _ _ _ _ _ c.now.ensures.now c.now.ensures.stays c.make_turn.ensures.clock c.max-moment.ensures i.on_time.shown smooth.unsaturated.shown in
@@ -160,11 +168,11 @@ returns-in-Some-clause-prompt g c p dialling smooth few enough =
     c.in-Some.ensures.prompt p c.args.session.now.desk.poll_ms at (plan_length p + 12 - c.loop.counter) (ap (λ (k : LinkKind). k.prompt) i.kind ∙ smooth.prompt)
     (steady_after _ (g.L.Link.faults c.loop.link) _ smooth.steady i.counted c.make_turn.ensures.counts.later)
     (range_now _ _ c.loop.session.sender.limit _ _ i.on_time.patient.its_limit smooth.unsaturated so.within)
-    so.between_is smooth.unsaturated.shown (i.prompt p dialling was few _ so.before_is)
+    so.between_is smooth.unsaturated.shown (i.prompt p counts dialling was few _ so.before_is)
 
 pub returns-clause-prompt : goal.returns-clause-prompt
-returns-clause-prompt g c p dialling smooth few enough =
+returns-clause-prompt g c p counts dialling smooth few enough =
     let i = c.loop.invariant in
     let same : g.L.Link.faults c.hang_up.new.self ≡ g.L.Link.faults c.loop.link = c.hang_up.ensures.faults in
     let was = smooth_before _ _ (port_of c.args.session.now.desk) _ (g.L.Link.faults c.loop.link) _ (g.T.Clock.moment c.loop.clock) _ _ _ smooth.unsaturated.last i.counted (omega (arith, same)) smooth.unsaturated.shown smooth (omega arith) in
-    absurd (not_used _ p _ _ c.loop.counter c.args.turns _ c.loop.session enough (omega (arith, c.loop-test.false)) (i.prompt p dialling was few smooth.unsaturated.last smooth.unsaturated.shown))
+    absurd (not_used _ p _ _ c.loop.counter c.args.turns _ c.loop.session enough (omega (arith, c.loop-test.false)) (i.prompt p counts dialling was few smooth.unsaturated.last smooth.unsaturated.shown))

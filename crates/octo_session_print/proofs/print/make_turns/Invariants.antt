@@ -1,4 +1,4 @@
-use Rattle.std.proofs.Common.{◌≡◌, ◌<◌, ◌≤◌, ◌+◌, ◌-◌, ℕ, Some}
+use Rattle.std.proofs.Common.{◌≡◌, ◌<◌, ◌≤◌, ◌+◌, ◌-◌, ℕ, false, Some}
 use Rattle.printer_link.specs.Link.{RoseBy}
 use Rattle.octo_session.specs.Data.{port_of}
 use Rattle.octo_session_plan_proof.specs.Plan.{PrintData}
@@ -16,9 +16,10 @@ invariant-loop g l = record {
   way : (p : PrintData) → IsDialling p (port_of l.initial.session.desk) (g.L.Link.past l.initial.link) (g.L.Link.past l.initial.link) l.initial.session →
       IsAfter l.counter (g.L.Link.kind l.link) p (port_of l.initial.session.desk) (g.L.Link.past l.initial.link) (g.L.Link.past l.link) l.session;
   kind : g.L.Link.kind l.link ≡ g.L.Link.kind l.initial.link;
+  numbered : l.session.sender.numbered ≡ l.initial.session.sender.numbered;
   calls : RoseBy l.counter (g.L.Link.calls l.initial.link) (g.L.Link.calls l.link);
   on_time : IsOnTime (g.T.Clock.moment l.initial.clock) (g.T.Clock.moment l.clock) l.moment l.initial.session.sender.limit l.session.sender;
-  prompt : (p : PrintData) → IsDialling p (port_of l.initial.session.desk) (g.L.Link.past l.initial.link) (g.L.Link.past l.initial.link) l.initial.session →
+  prompt : (p : PrintData) → l.initial.session.sender.numbered ≡ false → IsDialling p (port_of l.initial.session.desk) (g.L.Link.past l.initial.link) (g.L.Link.past l.initial.link) l.initial.session →
       IsSmooth (g.L.Link.kind l.initial.link) (g.L.Link.past l.initial.link) (port_of l.initial.session.desk) (g.L.Link.faults l.initial.link) (g.L.Link.faults l.link) (g.T.Clock.moment l.clock) l.initial.session.sender.limit l.initial.session.desk.poll_ms → plan_length p + 32 < most_lines →
       (at : ℕ) → g.T.Clock.moment l.clock ≡ Some at →
       IsOnWay (g.L.Link.kind l.link) p l.initial.session.desk.poll_ms at (plan_length p + 12 - l.counter) (g.L.Link.past l.link) l.session;
