@@ -25,7 +25,7 @@ pub record IsMadeOf (session : SessionData) (policy : Policy) (ports : List (Lis
 abbrev pub BeginsOn : SessionData → Policy → List (List ℕ) → List ℕ → Option Tables → Option (List ShelfFile) → House → Type 0
 BeginsOn session policy ports material kept held house =
     (tables : Tables) → kept ≡ Some tables → (files : List ShelfFile) → held ≡ Some files →
-    Begins session.desk.scripts session.desk.limits session.desk.poll_ms policy ports material tables files (known_of house)
+    Begins session.desk.scripts session.desk.limits session.desk.poll_ms session.desk.numbered policy ports material tables files (known_of house)
 
 -- a new host's tables, read from sound ones: those that the keeper keeps, if it records them
 pub record IsLoaded (kept : Option Tables) (t : TablesData) : Type 0 where

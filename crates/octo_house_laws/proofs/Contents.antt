@@ -1,20 +1,18 @@
 -- What holds of histories over contents of the shelf.
-use Rattle.std.proofs.Common.{◌≡◌, ℕ, List, [], ◌∷◌, sym, subst}
-use Rattle.std.proofs.lemmas.List.Elements.{All-from_recursion, recursion_from_All}
+use Rattle.std.proofs.Common.{Bool, ◌≡◌, ℕ, List, [], ◌∷◌, sym, subst}
+use Rattle.std.proofs.lemmas.List.Elements.{All-from_recursion}
 use Rattle.std.specs.List.{AllByRecursion}
 use Rattle.temp_rules.specs.declared.limits.Limits.{Limits}
-use Rattle.job_desk.specs.Data.{ScriptTexts, texts_at, new_desk}
+use Rattle.job_desk.specs.Data.{ScriptTexts, new_desk}
 use Rattle.octo_keeper.specs.declared.shelf.ShelfFile.{ShelfFile}
 use Rattle.octo_asks.specs.History.{History}
-use Rattle.octo_settings.specs.Sound.{IsSettings}
-use Rattle.octo_settings.specs.declared.settings.Settings.{Settings}
-use Rattle.octo_house_contents.specs.Contents.{with_files, EachOver, LegalOver}
+use Rattle.octo_house_contents.specs.Contents.{with_files, LegalOver}
 use Rattle.octo_house_contents.proofs.Led.{each_so}
 use Rattle.octo_house_rules.specs.Issued.{lines_at, issued_in}
 use Rattle.octo_house_rules.specs.Legal.{Standing, IsLegal, after_entry}
 use Rattle.octo_house_laws.specs.Calls.{IsPermittedEntry, IsEntryOnce}
-use Rattle.octo_house_laws.specs.Contents.{KeepsLawsOver, EveryHistoryKeepsLawsOver, EveryLineOverIsCool}
-use Rattle.octo_house_laws.specs.Limits.{IsCool, AreCoolScripts, IssuesCoolLines}
+use Rattle.octo_house_laws.specs.Contents.{EveryHistoryKeepsLawsOver, EveryLineOverIsCool}
+use Rattle.octo_house_laws.specs.Limits.{AreCoolScripts, IssuesCoolLines}
 use Rattle.octo_house_laws.specs.Own.{IsEntryIsolated}
 use Rattle.octo_house_laws.proofs.Calls.{by_entry, once_entry}
 use Rattle.octo_house_laws.proofs.Desk.{Cool}
@@ -43,14 +41,14 @@ cool_over limits (files ∷ contents) (e ∷ es) s l h =
     (cool_over limits contents es (after_entry e (with_files files s)) l.1 one.1)
 
 -- of a host with a new desk whose scripts aren't too hot
-pub every_cool_line_over : (scripts : ScriptTexts) (limits : Limits) (poll_ms : ℕ) (contents : List (List ShelfFile)) (history : History) (s : Standing)
-    → s.known.desk ≡ new_desk scripts limits poll_ms → AreCoolScripts limits scripts → LegalOver contents history s → IssuesCoolLines limits history
-every_cool_line_over scripts limits poll_ms contents history s e cool l =
+pub every_cool_line_over : (scripts : ScriptTexts) (limits : Limits) (poll_ms : ℕ) (numbered : Bool) (contents : List (List ShelfFile)) (history : History) (s : Standing)
+    → s.known.desk ≡ new_desk scripts limits poll_ms numbered → AreCoolScripts limits scripts → LegalOver contents history s → IssuesCoolLines limits history
+every_cool_line_over scripts limits poll_ms numbered contents history s e cool l =
     All-from_recursion (IsCoolLine limits) (issued_in history)
-    (cool_over limits contents history s l (subst (λ d. Cool limits d) (sym e) (new_cool limits scripts poll_ms cool)))
+    (cool_over limits contents history s l (subst (λ d. Cool limits d) (sym e) (new_cool limits scripts poll_ms numbered cool)))
 
 pub every_line_over : EveryLineOverIsCool
 every_line_over settings contents history s sound e l =
     All-from_recursion (IsCoolLine settings.limits) (issued_in history)
     (cool_over settings.limits contents history s l (subst (λ d. Cool settings.limits d) (sym e)
-    (new_cool settings.limits settings.scripts settings.poll_ms (λ at i d within. (sound.scripts at i d within).cool))))
+    (new_cool settings.limits settings.scripts settings.poll_ms settings.numbered_oks (λ at i d within. (sound.scripts at i d within).cool))))

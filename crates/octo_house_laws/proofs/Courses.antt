@@ -100,9 +100,9 @@ module _ (scripts : ScriptTexts) (run : Run) (h : History) (kept : HasScripts sc
   done_records before rows outcomes = λ i d within. completes before (get_or rows i d) (outcomes i d within)
 
 pub every_print : EveryPrintFollowsACourse
-every_print scripts limits poll_ms h s e l = follows scripts (run_in h s) h (keeps_scripts scripts limits poll_ms h s e l)
+every_print scripts limits poll_ms numbered h s e l = follows scripts (run_in h s) h (keeps_scripts scripts limits poll_ms numbered h s e l)
 
 pub every_done_record : EveryDoneRecordHasACourse
-every_done_record scripts limits poll_ms h s e old l =
-    done_records scripts (run_in h s) h (keeps_scripts scripts limits poll_ms h s e l) (length s.known.prints) (after_all h s).known.prints
-    (keeps_outcomes scripts limits poll_ms h s e old l)
+every_done_record scripts limits poll_ms numbered h s e old l =
+    done_records scripts (run_in h s) h (keeps_scripts scripts limits poll_ms numbered h s e l) (length s.known.prints) (after_all h s).known.prints
+    (keeps_outcomes scripts limits poll_ms numbered h s e old l)

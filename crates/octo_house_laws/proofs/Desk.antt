@@ -7,7 +7,7 @@ use Rattle.temp_rules.specs.declared.limits.Limits.{Limits}
 use Rattle.std.specs.Prelude.{◌&&◌}
 use Rattle.job_desk.specs.Data.{Data, File, Line, texts_at, tagged, script_lines, with_script, commands_of}
 use Rattle.job_desk.specs.Endings.{has_print}
-use Rattle.job_desk.specs.Note.{Noted, is_over, end_at, after_ending, after_open, ready_at, leave, fail, note_fact, note_step, hung_up}
+use Rattle.job_desk.specs.Note.{Noted, is_over, end_at, after_ending, after_open, ready_at, leave, fail, note_fact, note_step, with_acked, hung_up}
 use Rattle.job_desk.specs.Pull.{is_issued, settle_at, settled}
 use Rattle.job_desk.specs.Table.{connect_at, disconnect_at, closing, select_at, is_named, drop_file_step, printing, start_checked, start_file, start_at, restart_at, pause_at, resume_at, toggle_at, cancelling, cancel_at, add_manual, manual_at, take_manual, is_stop, stopping}
 use Rattle.job_desk.specs.declared.link_fact.LinkFact.{LinkFact}
@@ -296,5 +296,5 @@ module _ (limits : Limits) where
 
   pub cool_note : (acked : ℕ) (f : LinkFact) (moment : ℕ) (d : Data) → Cool limits d → Cool limits (note_step acked f moment d).1
   cool_note acked f moment d h =
-      let told : Data = record d { acked = acked } in
+      let told : Data = with_acked acked moment d in
       cool_settled (note_fact f moment told).1 (cool_fact f moment told (alike_cool d told (refl, refl, refl, refl, refl, refl) h))

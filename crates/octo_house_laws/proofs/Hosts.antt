@@ -1,5 +1,5 @@
 -- A host that begins on numbered prints meets what the laws ask.
-use Rattle.std.proofs.Common.{◌≡◌, ℕ, ◌+◌, ◌≤◌, List, [], ◌∷◌, length, map, All, slice_index_or, sym, subst, arith}
+use Rattle.std.proofs.Common.{Bool, ◌≡◌, ℕ, ◌≤◌, List, [], ◌∷◌, length, map, All, sym, subst}
 use Rattle.std.proofs.lemmas.List.{length-map}
 use Rattle.std.proofs.lemmas.List.Elements.{All-from_recursion, recursion_from_All}
 use Rattle.std.specs.List.{AllByRecursion}
@@ -31,14 +31,14 @@ read_within rows numbered =
     (recursion_from_All (λ (row : PrintRow). (row_read row).number ≤ length rows) rows (within_count rows numbered))))
 
 -- a host with a new desk whose records have no number above their count
-module _ (scripts : ScriptTexts) (limits : Limits) (poll_ms : ℕ) (history : History) (s : Standing) (desk : s.known.desk ≡ new_desk scripts limits poll_ms) where
+module _ (scripts : ScriptTexts) (limits : Limits) (poll_ms : ℕ) (numbered : Bool) (history : History) (s : Standing) (desk : s.known.desk ≡ new_desk scripts limits poll_ms numbered) where
   keeps_laws : All (λ (row : PrintRow). row.number ≤ length s.known.prints) s.known.prints → Legal history s → KeepsLaws scripts limits history s
   keeps_laws few legal = record {
-    scripts_kept = keeps_scripts scripts limits poll_ms history s desk legal;
-    courses = every_print scripts limits poll_ms history s desk legal;
-    outcomes = keeps_outcomes scripts limits poll_ms history s desk few legal;
-    done = every_done_record scripts limits poll_ms history s desk few legal;
-    cool = λ cool. every_line scripts limits poll_ms history s desk cool legal;
+    scripts_kept = keeps_scripts scripts limits poll_ms numbered history s desk legal;
+    courses = every_print scripts limits poll_ms numbered history s desk legal;
+    outcomes = keeps_outcomes scripts limits poll_ms numbered history s desk few legal;
+    done = every_done_record scripts limits poll_ms numbered history s desk few legal;
+    cool = λ cool. every_line scripts limits poll_ms numbered history s desk cool legal;
     permitted = every_call history s legal;
     once = every_put history s legal;
     isolated = every_caller history s legal;
@@ -46,9 +46,9 @@ module _ (scripts : ScriptTexts) (limits : Limits) (poll_ms : ℕ) (history : Hi
 
   -- one whose prints are numbered from 1 without a gap
   pub new_host_keeps : AreNumbered s.known.prints → Legal history s → KeepsLaws scripts limits history s
-  new_host_keeps numbered legal = keeps_laws (within_count s.known.prints numbered) legal
+  new_host_keeps counted legal = keeps_laws (within_count s.known.prints counted) legal
 
 pub every_host : EveryHostKeepsTheLaws
-every_host scripts limits poll_ms policy ports material tables files held k window limit history begins numbered legal =
-    keeps_laws scripts limits poll_ms history (beginning window limit k held) begins.desk
-    (subst (λ (rows : List PrintRow). All (λ (row : PrintRow). row.number ≤ length rows) rows) (sym begins.prints) (read_within tables.prints numbered)) legal
+every_host scripts limits poll_ms numbered policy ports material tables files held k window limit history begins counted legal =
+    keeps_laws scripts limits poll_ms numbered history (beginning window limit k held) begins.desk
+    (subst (λ (rows : List PrintRow). All (λ (row : PrintRow). row.number ≤ length rows) rows) (sym begins.prints) (read_within tables.prints counted)) legal

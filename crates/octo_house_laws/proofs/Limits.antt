@@ -1,5 +1,5 @@
 -- No line of a legal history asks a heater for more than its limit.
-use Rattle.std.proofs.Common.{ℕ, List, [], ◌∷◌, ◌++◌, map, refl, sym, subst}
+use Rattle.std.proofs.Common.{Bool, ℕ, List, [], ◌∷◌, ◌++◌, map, refl, sym, subst}
 use Rattle.std.proofs.lemmas.List.Elements.{All-from_recursion, recursion_from_All}
 use Rattle.std.specs.List.{AllByRecursion}
 use Rattle.temp_rules.specs.declared.limits.Limits.{Limits}
@@ -73,8 +73,8 @@ module _ (limits : Limits) where
       let one : AllByRecursion (IsCoolLine limits) (lines_at e) × Cool limits (after_entry e s).known.desk = cool_entry e s l.0 h in
       each_append (IsCoolLine limits) (lines_at e) (issued_in es) one.0 (cool_history es (after_entry e s) l.1 one.1)
 
-  pub new_cool : (scripts : ScriptTexts) (poll_ms : ℕ) → AreCoolScripts limits scripts → Cool limits (new_desk scripts limits poll_ms)
-  new_cool scripts poll_ms a = record {
+  pub new_cool : (scripts : ScriptTexts) (poll_ms : ℕ) (numbered : Bool) → AreCoolScripts limits scripts → Cool limits (new_desk scripts limits poll_ms numbered)
+  new_cool scripts poll_ms numbered a = record {
     limits_are = refl;
     scripts = λ at. recursion_from_All (IsCool limits) (texts_at at scripts) (a at);
     waiting = tt;
@@ -83,10 +83,10 @@ module _ (limits : Limits) where
   }
 
 pub every_line : EveryLineIsCool
-every_line scripts limits poll_ms history s e a l =
+every_line scripts limits poll_ms numbered history s e a l =
     All-from_recursion (IsCoolLine limits) (issued_in history) (cool_history limits history s l (subst (λ d. Cool limits d) (sym e)
-    (new_cool limits scripts poll_ms a)))
+    (new_cool limits scripts poll_ms numbered a)))
 
 pub every_line_of_settings : EveryLineOfSettingsIsCool
 every_line_of_settings settings history s sound e l =
-    every_line settings.scripts settings.limits settings.poll_ms history s e (λ at i d within. (sound.scripts at i d within).cool) l
+    every_line settings.scripts settings.limits settings.poll_ms settings.numbered_oks history s e (λ at i d within. (sound.scripts at i d within).cool) l

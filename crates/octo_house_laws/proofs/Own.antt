@@ -4,9 +4,8 @@ use Rattle.std.proofs.lemmas.Option.{same_Some}
 use Rattle.std.specs.List.{find, filter}
 use Rattle.std.specs.Option.{option_or, option_map}
 use Rattle.sha2.specs.Sha256.{sha256}
-use Rattle.octo_access.specs.Rights.{has, caller, is_caller, admin_row, admin_with_key}
+use Rattle.octo_access.specs.Rights.{caller, is_caller, admin_row, admin_with_key}
 use Rattle.octo_access.specs.declared.permission.Permission.{Permission}
-use Rattle.octo_access.specs.declared.permission.Permission.TheVariants as permission
 use Rattle.octo_access.specs.declared.policy.Policy.{Policy}
 use Rattle.octo_access.specs.declared.row.UserRow.{UserRow}
 use Rattle.octo_keeper.specs.declared.shelf.ShelfFile.{ShelfFile}
@@ -25,7 +24,7 @@ use Rattle.octo_asks.specs.declared.request.Ask.{Ask}
 use Rattle.octo_asks.specs.declared.request.Request.{Request}
 use Rattle.octo_asks.specs.declared.request.Request.TheVariants as request
 use Rattle.octo_house_rules.specs.Answers.{verdict, verdict_by, verdict_of_caller, unless_lacking, lacking, request_verdict, free_verdict}
-use Rattle.octo_house_rules.specs.Isolation.{is_private, SameFor, IsSame}
+use Rattle.octo_house_rules.specs.Isolation.{is_private, SameFor}
 use Rattle.octo_house_rules.specs.Known.{Known, is_held}
 use Rattle.octo_house_rules.specs.Legal.{Standing, after_entry, IsLegal}
 use Rattle.octo_house_rules.specs.Reads.{is_print_of}
@@ -33,7 +32,7 @@ use Rattle.octo_house_rules.specs.Refusals.{refused_if, found_or}
 use Rattle.octo_house_rules.specs.Rows.{put_by, asked_entry, with_queue}
 use Rattle.octo_house_rules.specs.Verdict.{Verdict, Deed, May, gives, makes, writes, reads, removes, stores, begins, answer_in}
 use Rattle.octo_house_rules.proofs.Isolated.{isolation}
-use Rattle.octo_house_laws.specs.Own.{OwnView, view_of, host_of, own_answer, IsOwnAnswer, IsIsolated, IsEntryIsolated, EveryCallerIsIsolated}
+use Rattle.octo_house_laws.specs.Own.{view_of, host_of, IsIsolated, IsEntryIsolated, EveryCallerIsIsolated}
 
 -- a filter twice is that filter
 again-more : {X : Type 0} (p : X → Bool) (x : X) (xs : List X) (b : Bool) → p x ≡ b → filter p xs ≡ filter p (filter p xs)

@@ -1,5 +1,5 @@
 -- What holds of prints in histories over contents of the shelf.
-use Rattle.std.proofs.Common.{◌≡◌, ℕ, ◌≤◌, List, [], ◌∷◌, ◌++◌, length, All, refl, sym, ◌∙◌, ap, subst}
+use Rattle.std.proofs.Common.{Bool, ◌≡◌, ℕ, ◌≤◌, List, [], ◌∷◌, ◌++◌, length, All, refl, sym, ◌∙◌, ap, subst}
 use Rattle.temp_rules.specs.declared.limits.Limits.{Limits}
 use Rattle.job_desk.specs.Data.{ScriptTexts, Data, Line, new_desk}
 use Rattle.job_desk.specs.Run.{DeskCall, Fate, Run}
@@ -58,17 +58,17 @@ told_over (files ∷ contents) (e ∷ es) s l n before ends t =
     (ap (λ (d : Data). ends_all more d (ends_all calls s.known.desk ends)) j.desk ∙ sym (ends_append calls more s.known.desk ends))
     (told_over contents es later l.1 j.numbered before (ends_all calls s.known.desk ends) (j.told before ends t))
 
-module _ (scripts : ScriptTexts) (limits : Limits) (poll_ms : ℕ) (contents : List (List ShelfFile)) (h : History) (s : Standing)
-    (new : s.known.desk ≡ new_desk scripts limits poll_ms) where
+module _ (scripts : ScriptTexts) (limits : Limits) (poll_ms : ℕ) (numbered : Bool) (contents : List (List ShelfFile)) (h : History) (s : Standing)
+    (new : s.known.desk ≡ new_desk scripts limits poll_ms numbered) where
   pub keeps_prints : All (λ (row : PrintRow). row.number ≤ length s.known.prints) s.known.prints → LegalOver contents h s
       → KeepsPrintsOver scripts contents h s
   keeps_prints old l =
-      let n : IsNumbered s.known = new_numbered scripts limits poll_ms s.known new in
+      let n : IsNumbered s.known = new_numbered scripts limits poll_ms numbered s.known new in
       let run : Run = run_over contents h s in
       let rows : List PrintRow = (after_over contents h s).known.prints in
       let before : ℕ = length s.known.prints in
       let j : MayAll (calls_over contents h s) s.known.desk × (lines_pulled (calls_over contents h s) s.known.desk ≡ issued_in h) = joined_over contents h s l n in
-      let kept : HasScripts scripts run h = scripts_of scripts limits poll_ms (calls_over contents h s) s.known.desk h new j.0 j.1 in
+      let kept : HasScripts scripts run h = scripts_of scripts limits poll_ms numbered (calls_over contents h s) s.known.desk h new j.0 j.1 in
       let outcomes : All (HasOutcome before run.ends) rows =
       outcomes_of before (calls_over contents h s) s.known.desk rows (told_over contents h s l n before [] (none_told s.known.prints old))
       in
@@ -76,7 +76,7 @@ module _ (scripts : ScriptTexts) (limits : Limits) (poll_ms : ℕ) (contents : L
 
   -- of a host whose prints are numbered from 1 without a gap
   pub new_host_keeps_prints : AreNumbered s.known.prints → LegalOver contents h s → KeepsPrintsOver scripts contents h s
-  new_host_keeps_prints numbered l = keeps_prints (within_count s.known.prints numbered) l
+  new_host_keeps_prints counted l = keeps_prints (within_count s.known.prints counted) l
 
 pub every_history_over : EveryHistoryKeepsPrintsOver
-every_history_over scripts limits poll_ms contents h s new old l = keeps_prints scripts limits poll_ms contents h s new old l
+every_history_over scripts limits poll_ms numbered contents h s new old l = keeps_prints scripts limits poll_ms numbered contents h s new old l

@@ -4,7 +4,7 @@ use Rattle.std.specs.List.{AllByRecursion}
 use Rattle.temp_rules.specs.declared.limits.Limits.{Limits}
 use Rattle.job_desk.specs.Data.{Data, Line, commands_of, moment_after}
 use Rattle.job_desk.specs.Endings.{has_print}
-use Rattle.job_desk.specs.Pull.{Drawn, nothing, keep_number, next_number, issue, from_scripts, from_manual, poll_is_due, from_poll, from_file, draw_in_order, draw_at, draw_last}
+use Rattle.job_desk.specs.Pull.{Drawn, nothing, keep_number, next_number, issue, from_scripts, from_manual, poll_is_due, from_poll, probe_is_due, from_probe, from_file, draw_in_order, draw_at, draw_last}
 use Rattle.job_desk.specs.Run.{DeskCall, Connect, Disconnect, Select, DropFile, Start, Restart, Pause, Resume, Toggle, Cancel, Manually, Pull, Note}
 use Rattle.job_desk.specs.declared.state.State.{State}
 use Rattle.job_desk.specs.declared.state.State.TheVariants.{Operational, Printing, Pausing, Paused, Cancelling, Finishing, Closing}
@@ -12,7 +12,7 @@ use Rattle.job_desk.specs.declared.state.Tag.{Tag}
 use Rattle.job_desk.specs.declared.state.Tag.TheVariants.{Script, Job, Manual, Poll}
 use Rattle.octo_house_rules.specs.Desk.{desk_after, desk_after_all, line_pulled, with_line, lines_pulled}
 use Rattle.octo_house_laws.specs.Limits.{IsCool}
-use Rattle.octo_house_laws.proofs.Texts.{each_at, poll_cool}
+use Rattle.octo_house_laws.proofs.Texts.{each_at, poll_cool, probe_cool}
 use Rattle.octo_house_laws.proofs.Desk.{Cool, alike_cool, cool_connect, cool_disconnect, cool_select, cool_drop, cool_start, cool_restart, cool_pause, cool_resume, cool_toggle, cool_cancel, cool_manual, cool_settled, cool_note}
 use Rattle.std.proofs.lemmas.Bool.{cond_both}
 
@@ -34,10 +34,11 @@ module _ (limits : Limits) where
 
   cool_keep : (tag : Tag) (number : ℕ) (d : Data) → Cool limits d → Cool limits (keep_number tag number d)
   cool_keep (Script point print) number d h =
-      cond_both (nat_eq print 0) d (record d { print_line = number }) (Cool limits) (λ _. h) (λ _. alike_cool limits d (record d { print_line = number })
-      (refl, refl, refl, refl, refl, refl) h)
-  cool_keep (Job print index) number d h = alike_cool limits d (record d { print_line = number }) (refl, refl, refl, refl, refl, refl) h
-  cool_keep Manual number d h = h
+      cond_both (nat_eq print 0) (record d { last_line = number }) (record d { print_line = number; last_line = number }) (Cool limits)
+      (λ _. alike_cool limits d (record d { last_line = number }) (refl, refl, refl, refl, refl, refl) h)
+      (λ _. alike_cool limits d (record d { print_line = number; last_line = number }) (refl, refl, refl, refl, refl, refl) h)
+  cool_keep (Job print index) number d h = alike_cool limits d (record d { print_line = number; last_line = number }) (refl, refl, refl, refl, refl, refl) h
+  cool_keep Manual number d h = alike_cool limits d (record d { last_line = number }) (refl, refl, refl, refl, refl, refl) h
   cool_keep Poll number d h = alike_cool limits d (record d { poll_line = number }) (refl, refl, refl, refl, refl, refl) h
 
   issues : (line : Line) (d : Data) → IsCoolLine line → Cool limits d → DrawsCool (issue line d)
@@ -77,6 +78,14 @@ module _ (limits : Limits) where
         tag = Poll;
       }) asked (poll_cool limits) (alike_cool limits d asked (refl, refl, refl, refl, refl, refl) h)) n
 
+  draws_probe : (awaited moment : ℕ) (d : Data) → Cool limits d → DrawsCool (from_probe awaited moment d)
+  draws_probe awaited moment d h =
+      let asked : Data = record d { probe_at = moment_after moment d.poll_ms } in
+      choose_drawn (probe_is_due awaited moment d) _ (nothing d) (issues (record {
+        text = codes "M400";
+        tag = Poll;
+      }) asked (probe_cool limits) (alike_cool limits d asked (refl, refl, refl, refl, refl, refl) h)) (tt, h)
+
   draws_file : (text : Option (List ℕ)) (d : Data) → slice_get (commands_of d.file) d.cursor ≡ text
       → AllByRecursion (IsCool limits) (commands_of d.file) → Cool limits d → DrawsCool (from_file text d)
   draws_file None d is f h = (tt, h)
@@ -88,20 +97,20 @@ module _ (limits : Limits) where
   draws_talk : (moment : ℕ) (d : Data) (next : Drawn) → Cool limits d → DrawsCool next → DrawsCool (draw_in_order moment d next)
   draws_talk moment d next h n = draws_script d.waiting d _ h.waiting h (draws_manual d.manual d _ h.manual h (draws_poll moment d next h n))
 
-  draws_last : (b : Bool) (d : Data) → Cool limits d → DrawsCool (draw_last b d)
-  draws_last false d h = draws_script d.waiting d (nothing d) h.waiting h (tt, h)
-  draws_last true d h = draws_manual d.manual d (nothing d) h.manual h (tt, h)
+  draws_last : (b : Bool) (moment : ℕ) (d : Data) → Cool limits d → DrawsCool (draw_last b moment d)
+  draws_last false moment d h = draws_script d.waiting d _ h.waiting h (draws_probe d.last_line moment d h)
+  draws_last true moment d h = draws_manual d.manual d (nothing d) h.manual h (tt, h)
 
   draws : (s : State) (moment : ℕ) (d : Data) → d.state ≡ s → Cool limits d → DrawsCool (draw_at s moment d)
-  draws Operational moment d is h = draws_talk moment d (nothing d) h (tt, h)
+  draws Operational moment d is h = draws_talk moment d _ h (draws_probe d.issued moment d h)
   draws Printing moment d is h =
       draws_talk moment d _ h (draws_file (slice_get (commands_of d.file) d.cursor) d refl (h.file
       (let has : has_print d.state ≡ true = ap has_print is in has)) h)
-  draws Pausing moment d is h = draws_talk moment d (nothing d) h (tt, h)
-  draws Paused moment d is h = draws_talk moment d (nothing d) h (tt, h)
-  draws Cancelling moment d is h = draws_talk moment d (nothing d) h (tt, h)
-  draws Finishing moment d is h = draws_talk moment d (nothing d) h (tt, h)
-  draws Closing moment d is h = draws_last d.stopped d h
+  draws Pausing moment d is h = draws_talk moment d _ h (draws_probe d.issued moment d h)
+  draws Paused moment d is h = draws_talk moment d _ h (draws_probe d.issued moment d h)
+  draws Cancelling moment d is h = draws_talk moment d _ h (draws_probe d.issued moment d h)
+  draws Finishing moment d is h = draws_talk moment d _ h (draws_probe d.issued moment d h)
+  draws Closing moment d is h = draws_last d.stopped moment d h
   draws _ moment d is h = (tt, h)
 
   -- a call whose own texts, if it brings some, are cool

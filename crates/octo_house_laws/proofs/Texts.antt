@@ -1,7 +1,7 @@
 -- Texts that ask no heater for more than its limit.
 use Rattle.std.proofs.Common.{◌≡◌, ℕ, zero, suc, List, [], ◌∷◌, ◌++◌, map, slice_get, codes, Option, Some, None, refl, subst}
 use Rattle.std.specs.List.{AllByRecursion}
-use Rattle.std.specs.Option.{option_map, option_or}
+use Rattle.std.specs.Option.{option_map}
 use Rattle.gcode_lines.specs.Job.{Command}
 use Rattle.byte_text.specs.Number as numbers
 use Rattle.gcode_words.specs.Value as values
@@ -30,6 +30,11 @@ module _ (limits : Limits) where
   pub poll_cool : IsCool limits (codes "M105")
   unfolding hot_of asked_of asking_of value_at values.number_at values.magnitude_at numbers.leading_digits values.decimals_at values.after_digits values.micro_of numbers.decimal_value values.millionths
   poll_cool = refl
+
+  -- and its probe
+  pub probe_cool : IsCool limits (codes "M400")
+  unfolding hot_of asked_of asking_of value_at values.number_at values.magnitude_at numbers.leading_digits values.decimals_at values.after_digits values.micro_of numbers.decimal_value values.millionths
+  probe_cool = refl
 
   not_hot : (line : ℕ) (hot : Option TooHot) → option_map (λ (h : TooHot). let made : HotLine = record {
     line = line;

@@ -1,5 +1,5 @@
 -- What holds of each call and line of a history over contents of the shelf, whatever it records.
-use Rattle.std.specs.Prelude.{◌≡◌, ℕ, ◌≤◌, List, length, All}
+use Rattle.std.specs.Prelude.{Bool, ◌≡◌, ℕ, ◌≤◌, List, length, All}
 use Rattle.temp_rules.specs.declared.limits.Limits.{Limits}
 use Rattle.job_desk.specs.Data.{ScriptTexts, new_desk}
 use Rattle.print_queue.specs.declared.row.PrintRow.{PrintRow}
@@ -38,8 +38,8 @@ pub record KeepsPrintsOver (scripts : ScriptTexts) (contents : List (List ShelfF
 -- the law, for a host that begins with a new desk, and whose records have no number above their count
 abbrev pub EveryHistoryKeepsPrintsOver : Type 0
 EveryHistoryKeepsPrintsOver =
-    (scripts : ScriptTexts) (limits : Limits) (poll_ms : ℕ) (contents : List (List ShelfFile)) (history : History) (s : Standing)
-    → s.known.desk ≡ new_desk scripts limits poll_ms
+    (scripts : ScriptTexts) (limits : Limits) (poll_ms : ℕ) (numbered : Bool) (contents : List (List ShelfFile)) (history : History) (s : Standing)
+    → s.known.desk ≡ new_desk scripts limits poll_ms numbered
     → All (λ (row : PrintRow). row.number ≤ length s.known.prints) s.known.prints → LegalOver contents history s
     → KeepsPrintsOver scripts contents history s
 
@@ -47,5 +47,5 @@ EveryHistoryKeepsPrintsOver =
 abbrev pub EveryLineOverIsCool : Type 0
 EveryLineOverIsCool =
     (settings : Settings) (contents : List (List ShelfFile)) (history : History) (s : Standing) → IsSettings settings
-    → s.known.desk ≡ new_desk settings.scripts settings.limits settings.poll_ms
+    → s.known.desk ≡ new_desk settings.scripts settings.limits settings.poll_ms settings.numbered_oks
     → LegalOver contents history s → IssuesCoolLines settings.limits history

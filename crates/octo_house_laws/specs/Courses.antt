@@ -1,5 +1,5 @@
 -- The courses of the prints of a history.
-use Rattle.std.specs.Prelude.{◌≡◌, ◌⊎◌, ℕ, ◌<◌, ◌≤◌, List, [], ◌∷◌, length, All}
+use Rattle.std.specs.Prelude.{Bool, ◌≡◌, ◌⊎◌, ℕ, ◌<◌, ◌≤◌, List, [], ◌∷◌, length, All}
 use Rattle.temp_rules.specs.declared.limits.Limits.{Limits}
 use Rattle.job_desk.specs.Course.{Course, End, Cancelled, Done}
 use Rattle.job_desk.specs.Data.{ScriptTexts, new_desk}
@@ -34,8 +34,8 @@ pub record FollowsCourses (scripts : ScriptTexts) (run : Run) (history : History
 -- the law of courses: so it is in each legal history of a host that begins with a new desk
 abbrev pub EveryPrintFollowsACourse : Type 0
 EveryPrintFollowsACourse =
-    (scripts : ScriptTexts) (limits : Limits) (poll_ms : ℕ) (history : History) (s : Standing)
-    → s.known.desk ≡ new_desk scripts limits poll_ms
+    (scripts : ScriptTexts) (limits : Limits) (poll_ms : ℕ) (numbered : Bool) (history : History) (s : Standing)
+    → s.known.desk ≡ new_desk scripts limits poll_ms numbered
     → Legal history s → FollowsCourses scripts (run_in history s) history
 
 -- a record that says Done, if its print began in the history, is of one with a whole course
@@ -46,7 +46,7 @@ HasCourseIfDone scripts before run history row =
 -- so it is for a host whose records have no number above their count
 abbrev pub EveryDoneRecordHasACourse : Type 0
 EveryDoneRecordHasACourse =
-    (scripts : ScriptTexts) (limits : Limits) (poll_ms : ℕ) (history : History) (s : Standing)
-    → s.known.desk ≡ new_desk scripts limits poll_ms
+    (scripts : ScriptTexts) (limits : Limits) (poll_ms : ℕ) (numbered : Bool) (history : History) (s : Standing)
+    → s.known.desk ≡ new_desk scripts limits poll_ms numbered
     → All (λ (row : PrintRow). row.number ≤ length s.known.prints) s.known.prints → Legal history s
     → All (HasCourseIfDone scripts (length s.known.prints) (run_in history s) history) (after_all history s).known.prints

@@ -1,5 +1,5 @@
 -- What all laws say of a host that has just begun.
-use Rattle.std.specs.Prelude.{ℕ, List, length, All}
+use Rattle.std.specs.Prelude.{Bool, ℕ, List, length, All}
 use Rattle.temp_rules.specs.declared.limits.Limits.{Limits}
 use Rattle.job_desk.specs.Data.{ScriptTexts}
 use Rattle.octo_access.specs.declared.policy.Policy.{Policy}
@@ -35,7 +35,7 @@ pub record KeepsLaws (scripts : ScriptTexts) (limits : Limits) (history : Histor
 -- the law, for a host that begins on kept tables whose prints are numbered from 1 without a gap
 abbrev pub EveryHostKeepsTheLaws : Type 0
 EveryHostKeepsTheLaws =
-    (scripts : ScriptTexts) (limits : Limits) (poll_ms : ℕ) (policy : Policy) (ports : List (List ℕ)) (material : List ℕ)
+    (scripts : ScriptTexts) (limits : Limits) (poll_ms : ℕ) (numbered : Bool) (policy : Policy) (ports : List (List ℕ)) (material : List ℕ)
     (tables : Tables) (files held : List ShelfFile) (k : Known) (window limit : ℕ) (history : History)
-    → Begins scripts limits poll_ms policy ports material tables files k → AreNumbered tables.prints
+    → Begins scripts limits poll_ms numbered policy ports material tables files k → AreNumbered tables.prints
     → Legal history (beginning window limit k held) → KeepsLaws scripts limits history (beginning window limit k held)

@@ -1,5 +1,5 @@
 -- Which temperatures the lines of a history ask for.
-use Rattle.std.specs.Prelude.{◌≡◌, ℕ, List, None, All}
+use Rattle.std.specs.Prelude.{Bool, ◌≡◌, ℕ, List, None, All}
 use Rattle.temp_rules.specs.Hot.{hot_of}
 use Rattle.temp_rules.specs.declared.limits.Limits.{Limits}
 use Rattle.job_desk.specs.Data.{ScriptTexts, Line, texts_at, new_desk}
@@ -25,13 +25,13 @@ IssuesCoolLines limits history = All (λ (line : Line). IsCool limits line.text)
 -- the law, for a host that begins with a new desk and such scripts
 abbrev pub EveryLineIsCool : Type 0
 EveryLineIsCool =
-    (scripts : ScriptTexts) (limits : Limits) (poll_ms : ℕ) (history : History) (s : Standing)
-    → s.known.desk ≡ new_desk scripts limits poll_ms
+    (scripts : ScriptTexts) (limits : Limits) (poll_ms : ℕ) (numbered : Bool) (history : History) (s : Standing)
+    → s.known.desk ≡ new_desk scripts limits poll_ms numbered
     → AreCoolScripts limits scripts → Legal history s → IssuesCoolLines limits history
 
 -- the same for settings as they are read
 abbrev pub EveryLineOfSettingsIsCool : Type 0
 EveryLineOfSettingsIsCool =
     (settings : Settings) (history : History) (s : Standing) → IsSettings settings
-    → s.known.desk ≡ new_desk settings.scripts settings.limits settings.poll_ms
+    → s.known.desk ≡ new_desk settings.scripts settings.limits settings.poll_ms settings.numbered_oks
     → Legal history s → IssuesCoolLines settings.limits history

@@ -1,5 +1,5 @@
 -- What more events leave of the sessions before.
-use Rattle.std.proofs.Common.{◌≡◌, ℕ, zero, suc, pred, ◌<◌, Bool, true, false, List, [], ◌∷◌, ◌++◌, refl, sym, ◌∙◌, ap, arith}
+use Rattle.std.proofs.Common.{◌≡◌, ℕ, zero, suc, pred, ◌<◌, Bool, true, false, List, [], ◌∷◌, ◌++◌, refl, sym, ◌∙◌, ap, subst, arith}
 use Rattle.std.specs.Prelude.{◌||◌}
 use Rattle.std.specs.List.{list_all, list_any}
 use Rattle.std.proofs.lemmas.List.Folds.{list_any-append}
@@ -9,16 +9,23 @@ use Rattle.printer_model.specs.declared.event.WorldEvent.{WorldEvent}
 use Rattle.printer_model.specs.declared.event.WorldEvent.TheVariants.{Opened, Send, Arrive, Lose, LoseReply, Garble, Run, Restart, Chatter, Recv, Closed}
 use Rattle.printer_model.proofs.Sessions.{executed-append, till-append, till-all, pred_below}
 use Rattle.printer_link.specs.Link.{LinkKind}
+use Rattle.send_window.specs.Data.{SenderData}
 use Rattle.octo_session.specs.Tied.{IsTied}
 use Rattle.octo_session_line_proof.proofs.Former.{tied_as}
 use Rattle.std.proofs.lemmas.Bool.{and_parts}
 
 -- a session before the last one stays tied, whatever comes
-pub tied_before : (kind : LinkKind) (issued : List (List ℕ)) (acked : ℕ) (past added : List WorldEvent) (s : ℕ) → s < opens past →
-    IsTied kind issued acked past s → IsTied kind issued acked (past ++ added) s
-tied_before kind issued acked past added s over t =
-    tied_as kind issued acked s past (past ++ added) (executed-append kind.slots kind.oks past added s over)
+pub tied_before : (numbered : Bool) (kind : LinkKind) (issued : List (List ℕ)) (acked : ℕ) (past added : List WorldEvent) (s : ℕ) → s < opens past →
+    IsTied numbered kind issued acked past s → IsTied numbered kind issued acked (past ++ added) s
+tied_before numbered kind issued acked past added s over t =
+    tied_as numbered kind issued acked s past (past ++ added) (executed-append kind.slots kind.oks past added s over)
     (till-append s past added over) (till-append (pred s) past added (pred_below s (opens past) over)) t
+
+-- what a session's sender says of its kind and its acknowledged lines
+pub tied_of : (numbered : Bool) (kind : LinkKind) (issued : List (List ℕ)) (x : SenderData) (acked : ℕ) (past : List WorldEvent) (s : ℕ) → x.acked ≡ acked →
+    x.numbered ≡ numbered → IsTied x.numbered kind issued x.acked past s → IsTied numbered kind issued acked past s
+tied_of numbered kind issued x acked past s same its_kind t =
+    subst (λ (b : Bool). IsTied b kind issued acked past s) its_kind (subst (λ (a : ℕ). IsTied x.numbered kind issued a past s) same t)
 
 -- events that open no session, and then others
 pub till-none : (first more : List WorldEvent) → opens first ≡ 0 → till 0 (first ++ more) ≡ first ++ till 0 more

@@ -4,8 +4,8 @@ use Rattle.temp_rules.specs.Hot.{first_hot_of}
 use Rattle.temp_rules.specs.declared.job.HotLine.{HotLine}
 use Rattle.std.specs.Prelude.{◌&&◌}
 use Rattle.job_desk.specs.Data.{Data, File, Line, with_script, moment_after}
-use Rattle.job_desk.specs.Note.{Noted, after_ending, is_over, end_at, finish, fail, ready_at, after_open, note_fact, note_step, hung_up}
-use Rattle.job_desk.specs.Pull.{Drawn, draw_in_order, nothing, next_number, keep_number, issue, from_scripts, from_manual, from_poll, poll_is_due, from_file, draw_at, is_issued, settle_at, pull_step, draw_last}
+use Rattle.job_desk.specs.Note.{Noted, after_ending, is_over, end_at, finish, fail, ready_at, after_open, note_fact, note_step, with_acked, hung_up}
+use Rattle.job_desk.specs.Pull.{Drawn, draw_in_order, nothing, next_number, keep_number, issue, from_scripts, from_manual, from_poll, poll_is_due, from_probe, probe_is_due, from_file, draw_at, is_issued, settle_at, pull_step, draw_last}
 use Rattle.job_desk.specs.Course.{job_line}
 use Rattle.job_desk.specs.Run.{DeskCall, Connect, Disconnect, Select, DropFile, Start, Restart, Pause, Resume, Toggle, Cancel, Manually, Pull, Note}
 use Rattle.job_desk.specs.Table.{connect_at, disconnect_at, select_at, is_named, drop_file_step, start_checked, start_file, start_at, restart_at, pause_at, resume_at, toggle_at, cancel_at, add_manual, manual_at, take_manual, is_stop}
@@ -28,7 +28,7 @@ Same d e = e.file ≡ d.file
 file_keep : (tag : Tag) (number : ℕ) (d : Data) → Same d (keep_number tag number d)
 file_keep (Script at print) number d = choose (nat_eq print 0)
   where
-    choose : (b : Bool) → Same d (cond b d (record d { print_line = number }))
+    choose : (b : Bool) → Same d (cond b (record d { last_line = number }) (record d { print_line = number; last_line = number }))
     choose true = refl
     choose false = refl
 file_keep _ number d = refl
@@ -49,6 +49,11 @@ file_poll moment d next h =
     let asked : Data = record d { poll_at = moment_after moment d.poll_ms } in
     choose_pair (λ e. Same d e) (poll_is_due moment d) _ next (file_issue (record { text = codes "M105"; tag = Poll }) d asked refl) h
 
+file_probe : (awaited moment : ℕ) (d : Data) → Same d (from_probe awaited moment d).1
+file_probe awaited moment d =
+    let asked : Data = record d { probe_at = moment_after moment d.poll_ms } in
+    choose_pair (λ e. Same d e) (probe_is_due awaited moment d) _ (nothing d) (file_issue (record { text = codes "M400"; tag = Poll }) d asked refl) refl
+
 file_command : (text : Option (List ℕ)) (d : Data) → Same d (from_file text d).1
 file_command None d = refl
 file_command (Some text) d = file_issue (job_line d.greatest d.cursor text) d (record d { cursor = d.cursor + 1 }) refl
@@ -56,18 +61,18 @@ file_command (Some text) d = file_issue (job_line d.greatest d.cursor text) d (r
 file_talk : (moment : ℕ) (d : Data) (next : Drawn) → Same d next.1 → Same d (draw_in_order moment d next).1
 file_talk moment d next h = file_scripts d.waiting d _ (file_manual d.manual d _ (file_poll moment d next h))
 
-file_last : (b : Bool) (d : Data) → Same d (draw_last b d).1
-file_last false d = file_scripts d.waiting d (nothing d) refl
-file_last true d = file_manual d.manual d (nothing d) refl
+file_last : (b : Bool) (moment : ℕ) (d : Data) → Same d (draw_last b moment d).1
+file_last false moment d = file_scripts d.waiting d _ (file_probe d.last_line moment d)
+file_last true moment d = file_manual d.manual d (nothing d) refl
 
 file_draw : (s : State) (moment : ℕ) (d : Data) → Same d (draw_at s moment d).1
-file_draw Operational moment d = file_talk moment d (nothing d) refl
+file_draw Operational moment d = file_talk moment d _ (file_probe d.issued moment d)
 file_draw Printing moment d = file_talk moment d _ (file_command _ d)
-file_draw Pausing moment d = file_talk moment d (nothing d) refl
-file_draw Paused moment d = file_talk moment d (nothing d) refl
-file_draw Cancelling moment d = file_talk moment d (nothing d) refl
-file_draw Finishing moment d = file_talk moment d (nothing d) refl
-file_draw Closing moment d = file_last d.stopped d
+file_draw Pausing moment d = file_talk moment d _ (file_probe d.issued moment d)
+file_draw Paused moment d = file_talk moment d _ (file_probe d.issued moment d)
+file_draw Cancelling moment d = file_talk moment d _ (file_probe d.issued moment d)
+file_draw Finishing moment d = file_talk moment d _ (file_probe d.issued moment d)
+file_draw Closing moment d = file_last d.stopped moment d
 file_draw _ moment d = refl
 
 file_settle : (s : State) (d : Data) → Same d (settle_at s d)
@@ -116,7 +121,7 @@ file_fact (fact.Ended end) moment d = file_fail d (after_ending d) (file_end d.s
 
 pub file_note : (acked : ℕ) (f : LinkFact) (moment : ℕ) (d : Data) → Same d (note_step acked f moment d).1
 file_note acked f moment d =
-    let counted : Data = record d { acked = acked } in
+    let counted : Data = with_acked acked moment d in
     let noted : Noted = note_fact f moment counted in
     file_settle noted.1.state noted.1 ∙ file_fact f moment counted
 

@@ -217,8 +217,8 @@ legal_first [] fs s l = (tt, l)
 legal_first (e ∷ es) fs s l = (let rest = legal_first es fs (after_entry e s) l.1 in ((l.0, rest.0), rest.1))
 
 -- legal histories of a host that began with a new desk
-module _ (scripts : ScriptTexts) (limits : Limits) (poll_ms : ℕ) (p : ℕ) (some : 0 < p) (s : Standing)
-    (new : s.known.desk ≡ new_desk scripts limits poll_ms) where
+module _ (scripts : ScriptTexts) (limits : Limits) (poll_ms : ℕ) (probing : Bool) (p : ℕ) (some : 0 < p) (s : Standing)
+    (new : s.known.desk ≡ new_desk scripts limits poll_ms probing) where
   positive_is : nat_eq 0 p ≡ false
   positive_is = below_test 0 p some
 

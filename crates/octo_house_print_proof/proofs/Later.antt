@@ -1,5 +1,5 @@
 -- What is sent in a session after its history had come so far.
-use Rattle.std.proofs.Common.{◌≡◌, inl, inr, ℕ, pred, ◌+◌, ◌≤◌, List, [], ◌∷◌, ◌++◌, length, map, drop, refl, sym, ◌∙◌, ap, subst, append_assoc, append-nil, arith}
+use Rattle.std.proofs.Common.{◌≡◌, inl, inr, ℕ, pred, ◌+◌, ◌≤◌, Bool, true, false, List, [], ◌∷◌, ◌++◌, length, map, drop, refl, sym, ◌∙◌, ap, subst, append_assoc, append-nil, arith}
 use Rattle.std.proofs.lemmas.List.{drop-append-le, length-append, map-append}
 use Rattle.marlin_reply.specs.Kind.{kind_of}
 use Rattle.marlin_reply.specs.declared.reply.Reply.{Reply}
@@ -10,7 +10,7 @@ use Rattle.printer_model.specs.declared.event.WorldEvent.{WorldEvent}
 use Rattle.printer_model.specs.declared.event.WorldEvent.TheVariants.{Opened, Send, Arrive, Lose, LoseReply, Garble, Run, Restart, Chatter, Recv, Closed}
 use Rattle.printer_model.proofs.Sessions.{till-append, till-all, till-IsFront}
 use Rattle.printer_link.specs.Link.{LinkKind, world_in}
-use Rattle.send_window.specs.Counting.{acked_of}
+use Rattle.send_window.specs.Counting.{most_named, acked_of, acked_as}
 use Rattle.send_window.proofs.OwnOks.{counts_next}
 use Rattle.octo_asks.specs.History.{History}
 use Rattle.octo_session.specs.Sends.{IsSendFit, AreSendsFit}
@@ -50,55 +50,65 @@ session_past past more s is some =
     ∙ sym (ap (λ (es : List WorldEvent). drop (length (till (pred s) past)) es ++ till 0 more) whole)
 
 -- the sendings of the second part
-fits_later : (issued : List (List ℕ)) (replies : List Reply) (w : WorldData) (xs ys : List WorldEvent) → AreSendsFit issued replies w (xs ++ ys) →
-    AreSendsFit issued (replies ++ replies_from w xs) (world_from w xs) ys
-fits_later issued replies w [] ys fits = subst (λ (r : List Reply). AreSendsFit issued r w ys) (sym (append-nil replies)) fits
-fits_later issued replies w (event ∷ xs) ys fits =
+fits_later : (numbered : Bool) (issued : List (List ℕ)) (replies : List Reply) (w : WorldData) (xs ys : List WorldEvent) →
+    AreSendsFit numbered issued replies w (xs ++ ys) →
+    AreSendsFit numbered issued (replies ++ replies_from w xs) (world_from w xs) ys
+fits_later numbered issued replies w [] ys fits = subst (λ (r : List Reply). AreSendsFit numbered issued r w ys) (sym (append-nil replies)) fits
+fits_later numbered issued replies w (event ∷ xs) ys fits =
     let more : List Reply = replies ++ map kind_of (received_by w event) in
     let same : more ++ replies_from (apply w event) xs ≡ replies ++ replies_from w (event ∷ xs) =
     append_assoc replies (map kind_of (received_by w event)) (replies_from (apply w event) xs)
     ∙ ap (λ (r : List Reply). replies ++ r) (sym (map-append kind_of (received_by w event) (received_from (apply w event) xs)))
     in
-    subst (λ (r : List Reply). AreSendsFit issued r (world_from (apply w event) xs) ys) same (fits_later issued more (apply w event) xs ys fits.1)
+    subst (λ (r : List Reply). AreSendsFit numbered issued r (world_from (apply w event) xs) ys) same (fits_later numbered issued more (apply w event) xs ys fits.1)
 
 -- the count of acknowledged lines doesn't fall
-acked_more : (replies more : List Reply) → acked_of replies ≤ acked_of (replies ++ more)
-acked_more replies [] = subst (λ (r : List Reply). acked_of replies ≤ acked_of r) (sym (append-nil replies)) (omega arith)
-acked_more replies (next ∷ more) =
-    let rest : acked_of (replies ++ next ∷ []) ≤ acked_of ((replies ++ next ∷ []) ++ more) = acked_more (replies ++ next ∷ []) more in
+counted_more : (replies more : List Reply) → acked_of replies ≤ acked_of (replies ++ more)
+counted_more replies [] = subst (λ (r : List Reply). acked_of replies ≤ acked_of r) (sym (append-nil replies)) (omega arith)
+counted_more replies (next ∷ more) =
+    let rest : acked_of (replies ++ next ∷ []) ≤ acked_of ((replies ++ next ∷ []) ++ more) = counted_more (replies ++ next ∷ []) more in
     let first : acked_of replies ≤ acked_of (replies ++ next ∷ []) = omega (arith, (counts_next replies next).0) in
     subst (λ (r : List Reply). acked_of replies ≤ acked_of r) (append_assoc replies (next ∷ []) more) (omega (arith, first, rest))
 
-above_by : (issued : List (List ℕ)) (acked : ℕ) (event : WorldEvent) (behind : List WorldEvent) (replies : List Reply) (w : WorldData)
-    → acked ≤ acked_of replies →
-    AreSendsFit issued replies w (event ∷ behind) → IsAbove issued acked event
-above_by issued acked (Send line) behind replies w below fits = by fits.0
+named_more : (replies more : List Reply) → most_named replies ≤ most_named (replies ++ more)
+named_more [] more = omega arith
+named_more (next ∷ replies) more = (let rest = named_more replies more in omega (arith, rest))
+
+acked_more : (numbered : Bool) (replies more : List Reply) → acked_as numbered replies ≤ acked_as numbered (replies ++ more)
+acked_more false replies more = counted_more replies more
+acked_more true replies more = (let rest = named_more replies more in omega (arith, rest))
+
+above_by : (numbered : Bool) (issued : List (List ℕ)) (acked : ℕ) (event : WorldEvent) (behind : List WorldEvent) (replies : List Reply) (w : WorldData)
+    → acked ≤ acked_as numbered replies →
+    AreSendsFit numbered issued replies w (event ∷ behind) → IsAbove issued acked event
+above_by numbered issued acked (Send line) behind replies w below fits = by fits.0
   where
-    by : IsSendFit issued (acked_of replies) line.items behind → IsAbove issued acked (Send line)
+    by : IsSendFit issued (acked_as numbered replies) line.items behind → IsAbove issued acked (Send line)
     by (inl hello) = inl hello
     by (inr (inl l)) = inr (inl (record { place = l.place; text = l.text; above = omega (arith, below, l.above); its = l.its; framed = l.framed }))
     by (inr (inr failing)) = inr (inr failing.0)
-above_by issued acked _ behind replies w below fits = tt
+above_by numbered issued acked _ behind replies w below fits = tt
 
-above_all : (issued : List (List ℕ)) (acked : ℕ) (events : List WorldEvent) (replies : List Reply) (w : WorldData) → acked ≤ acked_of replies →
-    AreSendsFit issued replies w events → AreAbove issued acked events
-above_all issued acked [] replies w below fits = tt
-above_all issued acked (event ∷ events) replies w below fits = (
-  above_by issued acked event events replies w below fits,
-  above_all issued acked events (replies ++ map kind_of (received_by w event)) (apply w event)
-      (omega (arith, below, acked_more replies (map kind_of (received_by w event)))) fits.1,
+above_all : (numbered : Bool) (issued : List (List ℕ)) (acked : ℕ) (events : List WorldEvent) (replies : List Reply) (w : WorldData) →
+    acked ≤ acked_as numbered replies →
+    AreSendsFit numbered issued replies w events → AreAbove issued acked events
+above_all numbered issued acked [] replies w below fits = tt
+above_all numbered issued acked (event ∷ events) replies w below fits = (
+  above_by numbered issued acked event events replies w below fits,
+  above_all numbered issued acked events (replies ++ map kind_of (received_by w event)) (apply w event)
+      (omega (arith, below, acked_more numbered replies (map kind_of (received_by w event)))) fits.1,
 )
 
 -- what is sent in the last session of a history, after this number of its lines was acknowledged, is above those
-pub later_above : (kind : LinkKind) (front : List WorldEvent) (first later : History) (so_far since : List WorldEvent) → 1 ≤ sessions first →
-    Tied kind front (first ++ later) (so_far ++ since) → Tied kind front first so_far →
+pub later_above : (numbered : Bool) (kind : LinkKind) (front : List WorldEvent) (first later : History) (so_far since : List WorldEvent) → 1 ≤ sessions first →
+    Tied numbered kind front (first ++ later) (so_far ++ since) → Tied numbered kind front first so_far →
     AreAbove (session_texts (sessions first) (first ++ later)) (acked_in (sessions first) first) (till 0 since)
-later_above kind front first later so_far since some t then_tied =
+later_above numbered kind front first later so_far since some t then_tied =
     let n : ℕ = sessions first in
     let s : ℕ = opens front + n in
     let issued : List (List ℕ) = session_texts n (first ++ later) in
-    let here : IsTied kind issued (acked_in n (first ++ later)) (so_far ++ since) s = t.each n some (omega (arith, sessions-append first later)) in
-    let part : IsTied kind (session_texts n first) (acked_in n first) so_far s = then_tied.each n some (omega arith) in
+    let here : IsTied numbered kind issued (acked_in n (first ++ later)) (so_far ++ since) s = t.each n some (omega (arith, sessions-append first later)) in
+    let part : IsTied numbered kind (session_texts n first) (acked_in n first) so_far s = then_tied.each n some (omega arith) in
     let is : s ≡ opens so_far = sym then_tied.counted in
     let before : till (pred s) (so_far ++ since) ≡ till (pred s) so_far =
     till-append (pred s) so_far since (omega (arith, pred_less s (omega (arith, some)), is))
@@ -106,14 +116,15 @@ later_above kind front first later so_far since some t then_tied =
     let world : world_before kind (so_far ++ since) s ≡ world_before kind so_far s = ap (world_in kind) before in
     let events : events_of_session s (so_far ++ since) ≡ events_of_session s so_far ++ till 0 since = session_past so_far since s is (omega (arith, some)) in
     let made : WorldData = world_before kind so_far s in
-    let fits : AreSendsFit issued [] made (events_of_session s so_far ++ till 0 since) =
-    subst (λ (es : List WorldEvent). AreSendsFit issued [] made es) events
-    (subst (λ (v : WorldData). AreSendsFit issued [] v (events_of_session s (so_far ++ since))) world here.sends)
+    let fits : AreSendsFit numbered issued [] made (events_of_session s so_far ++ till 0 since) =
+    subst (λ (es : List WorldEvent). AreSendsFit numbered issued [] made es) events
+    (subst (λ (v : WorldData). AreSendsFit numbered issued [] v (events_of_session s (so_far ++ since))) world here.sends)
     in
-    above_all issued (acked_in n first) (till 0 since) (replies_from made (events_of_session s so_far)) (world_from made (events_of_session s so_far))
-    (omega (arith, part.acked_is)) (fits_later issued [] made (events_of_session s so_far) (till 0 since) fits)
+    above_all numbered issued (acked_in n first) (till 0 since) (replies_from made (events_of_session s so_far)) (world_from made (events_of_session s so_far))
+    (omega (arith, part.acked_is)) (fits_later numbered issued [] made (events_of_session s so_far) (till 0 since) fits)
 
 -- what is sent in a session is the hello, a line that was issued in it, or a line that failed
-pub issued_above : (kind : LinkKind) (issued : List (List ℕ)) (acked : ℕ) (past : List WorldEvent) (s : ℕ) → IsTied kind issued acked past s →
+pub issued_above : (numbered : Bool) (kind : LinkKind) (issued : List (List ℕ)) (acked : ℕ) (past : List WorldEvent) (s : ℕ) →
+    IsTied numbered kind issued acked past s →
     AreAbove issued 0 (events_of_session s past)
-issued_above kind issued acked past s t = above_all issued 0 (events_of_session s past) [] (world_before kind past s) (omega arith) t.sends
+issued_above numbered kind issued acked past s t = above_all numbered issued 0 (events_of_session s past) [] (world_before kind past s) (omega arith) t.sends

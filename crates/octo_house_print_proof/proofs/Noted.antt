@@ -1,16 +1,14 @@
 -- The numbers that a desk keeps, over a note.
 use Rattle.std.proofs.Common.{◌≡◌, ◌⊎◌, inl, inr, ℕ, ◌<◌, ◌≤◌, Bool, true, false, cond, nat_eq, List, [], drop, None, Some, refl, sym, ◌∙◌, ap, subst, arith}
-use Rattle.std.proofs.lemmas.Bool.Decides.{nat_tests}
 use Rattle.job_desk.specs.Data.{Data, Line, with_script, moment_after}
 use Rattle.job_desk.specs.Pull.{settled}
-use Rattle.job_desk.specs.Note.{Noted, is_over, end_at, after_ending, finish, leave, hung_up, fail, ready_at, after_open, note_fact, note_step}
+use Rattle.job_desk.specs.Note.{Noted, is_over, end_at, after_ending, finish, leave, hung_up, fail, ready_at, after_open, note_fact, note_step, with_acked}
 use Rattle.job_desk.specs.Run.{print_lines}
 use Rattle.job_desk.specs.declared.state.State.{State}
 use Rattle.job_desk.specs.declared.state.State.TheVariants.{Offline, Connecting, Operational, Pausing, Paused, Cancelling, Finishing, Fault}
 use Rattle.job_desk.specs.declared.state.Point.TheVariants as point
 use Rattle.job_desk.specs.declared.link_fact.LinkFact.{LinkFact}
 use Rattle.job_desk.specs.declared.link_fact.LinkFact.TheVariants as fact
-use Rattle.job_desk.proofs.Noted.{no_lines}
 use Rattle.print_queue.specs.declared.ending.Outcome.TheVariants as outcome
 use Rattle.octo_house_print_proof.proofs.Lists.{none_past}
 use Rattle.octo_house_print_proof.proofs.Marks.{Marked, marked_same}
@@ -52,7 +50,8 @@ module _ (p : ℕ) (positive : nat_eq 0 p ≡ false) where
 
   after_ready : (s : State) (moment : ℕ) (t : Data) → IsAfter t (ready_at s moment t)
   after_ready Connecting moment t =
-      after_moved t (with_script point.Connected 0 (record t { state = Operational; poll_at = moment_after moment t.poll_ms })) refl refl refl refl (λ e. cc e)
+      after_moved t (with_script point.Connected 0
+      (record t { state = Operational; poll_at = moment_after moment t.poll_ms; probe_at = moment_after moment t.poll_ms })) refl refl refl refl (λ e. cc e)
   after_ready _ moment t = after_same t
 
   -- a step after another
@@ -98,8 +97,9 @@ module _ (p : ℕ) (positive : nat_eq 0 p ≡ false) where
   after_fact fact.Failed moment t other = after_fail t (after_ending t) (after_end t.state t)
   after_fact (fact.Ended end) moment t other = after_fail t (after_ending t) (after_end t.state t)
 
-  marked_after : (d e : Data) (acked : ℕ) (lines : List Line) → d.acked ≤ acked → IsAfter (record d { acked = acked }) e → Marked p d lines → Marked p e lines
-  marked_after d e acked lines later a m = record {
+  marked_after : (d e : Data) (acked moment : ℕ) (lines : List Line) → d.acked ≤ acked → IsAfter (with_acked acked moment d) e → Marked p d lines →
+      Marked p e lines
+  marked_after d e acked moment lines later a m = record {
     counted = a.issued ∙ m.counted;
     ahead = λ below. m.ahead (subst (λ g. g < p) a.greatest below);
     marked = λ is. ap (λ (n : ℕ). print_lines p (drop n lines)) a.line ∙ m.marked (sym a.greatest ∙ is);
@@ -114,19 +114,19 @@ module _ (p : ℕ) (positive : nat_eq 0 p ≡ false) where
   pub marked_note : (acked : ℕ) (f : LinkFact) (moment : ℕ) (d : Data) (lines : List Line) → (f ≡ fact.Opened → ⊥) → d.acked ≤ acked → Marked p d lines →
       Marked p (note_step acked f moment d).1 lines
   marked_note acked f moment d lines other later m =
-      let noted : Noted = note_fact f moment (record d { acked = acked }) in
+      let noted : Noted = note_fact f moment (with_acked acked moment d) in
       marked_same p noted.1 (settled noted.1) lines (same_settle p positive noted.1.state noted.1)
-      (marked_after d noted.1 acked lines later (after_fact f moment (record d { acked = acked }) other) m)
+      (marked_after d noted.1 acked moment lines later (after_fact f moment (with_acked acked moment d) other) m)
 
   pub acked_note : (acked : ℕ) (f : LinkFact) (moment : ℕ) (d : Data) → (f ≡ fact.Opened → ⊥) → (note_step acked f moment d).1.acked ≡ acked
   acked_note acked f moment d other =
-      let noted : Noted = note_fact f moment (record d { acked = acked }) in
-      (same_settle p positive noted.1.state noted.1).acked ∙ (after_fact f moment (record d { acked = acked }) other).acked
+      let noted : Noted = note_fact f moment (with_acked acked moment d) in
+      (same_settle p positive noted.1.state noted.1).acked ∙ (after_fact f moment (with_acked acked moment d) other).acked
 
   -- one that does: the session has no line yet
   pub marked_opened : (acked moment : ℕ) (d : Data) (lines : List Line) → Marked p d lines → Marked p (note_step acked fact.Opened moment d).1 []
   marked_opened acked moment d lines m =
-      let t : Data = after_open (record d { acked = acked }) in
+      let t : Data = after_open (with_acked acked moment d) in
       let noted : Noted = after_ending t in
       marked_same p noted.1 (settled noted.1) [] (same_settle p positive noted.1.state noted.1) (by t noted.1 refl refl (λ is. is) refl (after_end t.state t))
     where
@@ -144,6 +144,6 @@ module _ (p : ℕ) (positive : nat_eq 0 p ≡ false) where
 
   pub acked_opened : (acked moment : ℕ) (d : Data) → (note_step acked fact.Opened moment d).1.acked ≡ 0
   acked_opened acked moment d =
-      let t : Data = after_open (record d { acked = acked }) in
+      let t : Data = after_open (with_acked acked moment d) in
       let noted : Noted = after_ending t in
       (same_settle p positive noted.1.state noted.1).acked ∙ (after_end t.state t).acked

@@ -1,9 +1,8 @@
 -- The calls of a history's entries, and what they leave.
-use Rattle.std.proofs.Common.{◌≡◌, ◌⊎◌, inl, inr, ℕ, ◌≤◌, Bool, false, nat_eq, List, [], ◌∷◌, ◌++◌, length, map, Option, None, Some, refl, sym, ◌∙◌, ap, subst, append-nil, arith}
-use Rattle.std.proofs.lemmas.List.{length-map}
+use Rattle.std.proofs.Common.{◌≡◌, ◌⊎◌, inl, inr, ℕ, ◌≤◌, Bool, false, nat_eq, List, [], ◌∷◌, ◌++◌, length, map, Option, None, refl, sym, ◌∙◌, ap, subst, append-nil, arith}
 use Rattle.job_desk.specs.Data.{ScriptTexts, Data, Line}
 use Rattle.job_desk.specs.Issued.{line_of}
-use Rattle.job_desk.specs.Note.{after_open, after_ending, end_at, note_step, first_fact}
+use Rattle.job_desk.specs.Note.{note_step, first_fact}
 use Rattle.job_desk.specs.Pull.{pull_step, draw_at, settle_at}
 use Rattle.job_desk.specs.Run.{DeskCall, Pull, Note}
 use Rattle.job_desk.specs.declared.issued.Issued.{Issued}
@@ -11,12 +10,9 @@ use Rattle.job_desk.specs.declared.issued.Note as declared_note
 use Rattle.job_desk.specs.declared.link_fact.LinkFact.{LinkFact}
 use Rattle.job_desk.specs.declared.link_fact.LinkFact.TheVariants as fact
 use Rattle.job_desk.specs.declared.state.State.{State}
-use Rattle.job_desk.specs.declared.state.State.TheVariants.{Offline, Connecting, Printing, Pausing, Cancelling, Finishing, Fault}
+use Rattle.job_desk.specs.declared.state.State.TheVariants.{Offline, Connecting, Printing, Fault}
 use Rattle.job_desk.proofs.Steady.{Steady, steady-pull, steady-note}
 use Rattle.job_desk.proofs.Connecting.{note_opened}
-use Rattle.octo_keeper.specs.Tables.{with_due_end, ended_row}
-use Rattle.print_queue.specs.declared.ending.Ending.{Ending}
-use Rattle.print_queue.specs.declared.row.PrintRow.{PrintRow}
 use Rattle.octo_house_rules.specs.Desk.{desk_after, desk_after_all, lines_pulled, with_line, ended_by}
 use Rattle.octo_house_rules.specs.Known.{Known}
 use Rattle.octo_house_rules.specs.Issued.{is_opening}
@@ -30,7 +26,7 @@ use Rattle.octo_house_print_proof.proofs.Noted.{acked_note}
 use Rattle.octo_house_print_proof.proofs.Requests.{AreRequests}
 use Rattle.octo_house_print_proof.proofs.Calls.{ArePlain, open_by_all}
 use Rattle.octo_house_print_proof.proofs.Plain.{IsPlain, open_by}
-use Rattle.octo_house_rules.proofs.Histories.{as_many, called_desk}
+use Rattle.octo_house_rules.proofs.Histories.{as_many}
 
 -- requests open no session and acknowledge nothing
 module _ (scripts : ScriptTexts) (p : ℕ) (positive : nat_eq 0 p ≡ false) where

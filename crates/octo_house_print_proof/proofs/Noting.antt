@@ -56,25 +56,26 @@ end_is _ end is = absurd (cc is)
 other_fact : (f : LinkFact) → is_opening f ≡ false → f ≡ fact.Opened → ⊥
 other_fact f is same = (let no : true ≡ false = ap is_opening (sym same) ∙ is in absurd (cc))
 
-module _ (moment : ℕ) (kind : LinkKind) (x y : SessionData) (got : Got) (f : LinkFact) (texts : List (List ℕ)) (front : List WorldEvent) (h : History)
-    (past added : List WorldEvent) (t : IsTurned moment kind x y got f texts (world_in kind past) added) (i : AreInStep kind front h past x) where
+module _ (moment : ℕ) (numbered : Bool) (kind : LinkKind) (x y : SessionData) (got : Got) (f : LinkFact) (texts : List (List ℕ)) (front : List WorldEvent) (h : History)
+    (past added : List WorldEvent) (t : IsTurned moment kind x y got f texts (world_in kind past) added) (i : AreInStep numbered kind front h past x) where
   -- nothing is sent in a turn over no link, until one is made
   quiet_turn : is_open h ≡ false → list_any is_send (till 0 added) ≡ false
-  quiet_turn shut = turn_shut moment kind x y got f texts past added (sym i.open_as ∙ shut) t
+  quiet_turn shut = turn_shut moment numbered kind x y got f texts past added (sym i.open_as ∙ shut) t
 
-  along : TiedSoFar kind front h (past ++ added)
-  along = longer_so_far kind front h past added i.counted quiet_turn i.so_far
+  along : TiedSoFar numbered kind front h (past ++ added)
+  along = longer_so_far numbered kind front h past added i.counted quiet_turn i.so_far
 
   -- an end has its cause
-  caused_turn : (end : SessionEnd) → f ≡ fact.Ended end → IsEndCaused kind end (past ++ added)
+  caused_turn : (end : SessionEnd) → f ≡ fact.Ended end → IsEndCaused numbered kind end (past ++ added)
   caused_turn end is = by (sessions h) (session_texts (sessions h) h) (acked_in (sessions h) h) i.current
     where
-      by : (n : ℕ) (issued : List (List ℕ)) (acked : ℕ) → IsCurrent kind n issued acked past x → IsEndCaused kind end (past ++ added)
+      by : (n : ℕ) (issued : List (List ℕ)) (acked : ℕ) → IsCurrent numbered kind n issued acked past x → IsEndCaused numbered kind end (past ++ added)
       by zero issued acked u =
           let talks : doing x ≡ UsingLink = ends_talking end (doing x) (subst (λ (g : LinkFact). can_find (doing x) g ≡ true) is t.can) in
           let no : true ≡ false = sym (talks_up x talks) ∙ u.down in
           absurd (cc no)
-      by (suc n) issued acked c = turn_caused moment kind x y got f texts issued past added end is t (opened c.0)
+      by (suc n) issued acked c =
+          subst (λ (b : Bool). IsEndCaused b kind end (past ++ added)) c.2 (turn_caused moment kind x y got f texts issued past added end is t (opened c.0))
 
   open_then : (was : Bool) → was ≡ x.up → up_after f was ≡ y.up
   open_then was is = ap (λ (b : Bool). up_after f b) is ∙ open_turn (doing x) f x.up t.can (λ talks. talks_up x talks) ∙ sym t.up
@@ -86,54 +87,54 @@ module _ (moment : ℕ) (kind : LinkKind) (x y : SessionData) (got : Got) (f : L
     open_now : is_open (h ++ e ∷ []) ≡ y.up
     open_now = open-after h e ∙ ap (λ (g : LinkFact). up_after g (is_open h)) its_fact ∙ open_then (is_open h) i.open_as
 
-    caused_now : (end : SessionEnd) → end_of note.fact ≡ Some end → IsEndCaused kind end (past ++ added)
+    caused_now : (end : SessionEnd) → end_of note.fact ≡ Some end → IsEndCaused numbered kind end (past ++ added)
     caused_now end ends = caused_turn end (sym its_fact ∙ end_is note.fact end ends)
 
     -- a note of a turn that makes no link
-    noted_other : is_opening note.fact ≡ false → AreInStep kind front (h ++ e ∷ []) (past ++ added) y
+    noted_other : is_opening note.fact ≡ false → AreInStep numbered kind front (h ++ e ∷ []) (past ++ added) y
     noted_other other =
         let n : sessions (h ++ e ∷ []) ≡ sessions h = sessions-other h e other in
-        let l = turn_stays moment kind x y got f texts front past added (sessions h) (λ s. session_texts s h) (λ s. acked_in s h) note.acked
-        (λ is. other_fact note.fact other (its_fact ∙ is)) t its_acked (leaves_of kind front h past x i)
+        let l = turn_stays moment numbered kind x y got f texts front past added (sessions h) (λ s. session_texts s h) (λ s. acked_in s h) note.acked
+        (λ is. other_fact note.fact other (its_fact ∙ is)) t its_acked (leaves_of numbered kind front h past x i)
         in
         let counted : opens (past ++ added) ≡ opens front + sessions (h ++ e ∷ []) = omega (arith, l.counted, n) in
         let former = λ (s : ℕ) (some : 1 ≤ s) (below : s < sessions (h ++ e ∷ [])).
-        earlier_tied kind front h e (past ++ added) s (omega (arith, below, n)) (l.former s some (omega (arith, below, n)))
+        earlier_tied numbered kind front h e (past ++ added) s (omega (arith, below, n)) (l.former s some (omega (arith, below, n)))
         in
         let texts_now : session_texts (sessions h) (h ++ e ∷ []) ≡ session_texts (sessions h) h ++ texts =
         texts-last h e other ∙ ap (λ (l : List (List ℕ)). session_texts (sessions h) h ++ l) its_texts
         in
         let few = few_other h e other i.few (subst (λ (l : List (List ℕ)). length l ≤ most_in (sessions h)) (sym texts_now) l.few) in
-        let current : IsCurrent kind (sessions (h ++ e ∷ [])) (session_texts (sessions (h ++ e ∷ [])) (h ++ e ∷ []))
+        let current : IsCurrent numbered kind (sessions (h ++ e ∷ [])) (session_texts (sessions (h ++ e ∷ [])) (h ++ e ∷ []))
         (acked_in (sessions (h ++ e ∷ [])) (h ++ e ∷ [])) (past ++ added) y =
-        subst (λ (k : ℕ). IsCurrent kind k (session_texts k (h ++ e ∷ [])) (acked_in k (h ++ e ∷ [])) (past ++ added) y) (sym n)
-        (current_as kind (sessions h) (sessions h) (session_texts (sessions h) h ++ texts) (session_texts (sessions h) (h ++ e ∷ [])) note.acked
+        subst (λ (k : ℕ). IsCurrent numbered kind k (session_texts k (h ++ e ∷ [])) (acked_in k (h ++ e ∷ [])) (past ++ added) y) (sym n)
+        (current_as numbered kind (sessions h) (sessions h) (session_texts (sessions h) h ++ texts) (session_texts (sessions h) (h ++ e ∷ [])) note.acked
         (acked_in (sessions h) (h ++ e ∷ []))
         (past ++ added) y refl (sym (texts-last h e other ∙ ap (λ (l : List (List ℕ)). session_texts (sessions h) h ++ l) its_texts))
         (sym (acked-last h e other)) l.current)
         in
-        in_step_by kind front h e (past ++ added) y counted former few current open_now caused_now along
+        in_step_by numbered kind front h e (past ++ added) y counted former few current open_now caused_now along
 
     -- a note of one that does
-    noted_opened : (note.acked ≡ 0) → is_opening note.fact ≡ true → AreInStep kind front (h ++ e ∷ []) (past ++ added) y
+    noted_opened : (note.acked ≡ 0) → is_opening note.fact ≡ true → AreInStep numbered kind front (h ++ e ∷ []) (past ++ added) y
     noted_opened none_acked opens_now =
         let n : sessions (h ++ e ∷ []) ≡ suc (sessions h) = sessions-opened h e opens_now in
-        let l = turn_opens moment kind x y got f texts front past added (sessions h) (λ s. session_texts s h) (λ s. acked_in s h) note.acked
-        (sym its_fact ∙ opened_fact note.fact opens_now) t its_acked (leaves_of kind front h past x i)
+        let l = turn_opens moment numbered kind x y got f texts front past added (sessions h) (λ s. session_texts s h) (λ s. acked_in s h) note.acked
+        (sym its_fact ∙ opened_fact note.fact opens_now) t its_acked (leaves_of numbered kind front h past x i)
         in
         let counted : opens (past ++ added) ≡ opens front + sessions (h ++ e ∷ []) = omega (arith, l.counted, n) in
         let former = λ (s : ℕ) (some : 1 ≤ s) (below : s < sessions (h ++ e ∷ [])).
         earlier s some (below_or s (sessions h) (omega (arith, below, n))) (l.former s some (omega (arith, below, n)))
         in
         let few = few_open h e opens_now i.few in
-        let current : IsCurrent kind (sessions (h ++ e ∷ [])) (session_texts (sessions (h ++ e ∷ [])) (h ++ e ∷ []))
+        let current : IsCurrent numbered kind (sessions (h ++ e ∷ [])) (session_texts (sessions (h ++ e ∷ [])) (h ++ e ∷ []))
         (acked_in (sessions (h ++ e ∷ [])) (h ++ e ∷ [])) (past ++ added) y =
-        subst (λ (k : ℕ). IsCurrent kind k (session_texts k (h ++ e ∷ [])) (acked_in k (h ++ e ∷ [])) (past ++ added) y) (sym n)
-        (current_as kind (suc (sessions h)) (suc (sessions h)) [] (session_texts (suc (sessions h)) (h ++ e ∷ [])) note.acked
+        subst (λ (k : ℕ). IsCurrent numbered kind k (session_texts k (h ++ e ∷ [])) (acked_in k (h ++ e ∷ [])) (past ++ added) y) (sym n)
+        (current_as numbered kind (suc (sessions h)) (suc (sessions h)) [] (session_texts (suc (sessions h)) (h ++ e ∷ [])) note.acked
         (acked_in (suc (sessions h)) (h ++ e ∷ []))
         (past ++ added) y refl (sym (texts-new h e opens_now)) (none_acked ∙ sym (acked-new h e opens_now)) l.current)
         in
-        in_step_by kind front h e (past ++ added) y counted former few current open_now caused_now along
+        in_step_by numbered kind front h e (past ++ added) y counted former few current open_now caused_now along
       where
         texts_now : (s : ℕ) → (s < sessions h) ⊎ (s ≡ sessions h) → session_texts s (h ++ e ∷ []) ≡ session_texts s h
         texts_now s (inl below) = texts-before h e (e ∷ []) s below
@@ -143,31 +144,32 @@ module _ (moment : ℕ) (kind : LinkKind) (x y : SessionData) (got : Got) (f : L
         acked_now s (inl below) = acked-before h e (e ∷ []) s below
         acked_now s (inr same) = subst (λ (k : ℕ). acked_in k (h ++ e ∷ []) ≡ acked_in k h) (sym same) (acked-ended h e opens_now)
 
-        earlier : (s : ℕ) → 1 ≤ s → (s < sessions h) ⊎ (s ≡ sessions h) → IsTied kind (session_texts s h) (acked_in s h) (past ++ added) (opens front + s) →
-            IsTied kind (session_texts s (h ++ e ∷ [])) (acked_in s (h ++ e ∷ [])) (past ++ added) (opens front + s)
+        earlier : (s : ℕ) → 1 ≤ s → (s < sessions h) ⊎ (s ≡ sessions h) →
+            IsTied numbered kind (session_texts s h) (acked_in s h) (past ++ added) (opens front + s) →
+            IsTied numbered kind (session_texts s (h ++ e ∷ [])) (acked_in s (h ++ e ∷ [])) (past ++ added) (opens front + s)
         earlier s some at tied =
-            subst (λ (l : List (List ℕ)). IsTied kind l (acked_in s (h ++ e ∷ [])) (past ++ added) (opens front + s)) (sym (texts_now s at))
-            (subst (λ (a : ℕ). IsTied kind (session_texts s h) a (past ++ added) (opens front + s)) (sym (acked_now s at)) tied)
+            subst (λ (l : List (List ℕ)). IsTied numbered kind l (acked_in s (h ++ e ∷ [])) (past ++ added) (opens front + s)) (sym (texts_now s at))
+            (subst (λ (a : ℕ). IsTied numbered kind (session_texts s h) a (past ++ added) (opens front + s)) (sym (acked_now s at)) tied)
 
     -- a turn with this note
-    pub noted_step : (note.fact ≡ fact.Opened → note.acked ≡ 0) → AreInStep kind front (h ++ e ∷ []) (past ++ added) y
+    pub noted_step : (note.fact ≡ fact.Opened → note.acked ≡ 0) → AreInStep numbered kind front (h ++ e ∷ []) (past ++ added) y
     noted_step none_acked = by (is_fact note.fact)
       where
-        by : (is_opening note.fact ≡ true) ⊎ (is_opening note.fact ≡ false) → AreInStep kind front (h ++ e ∷ []) (past ++ added) y
+        by : (is_opening note.fact ≡ true) ⊎ (is_opening note.fact ≡ false) → AreInStep numbered kind front (h ++ e ∷ []) (past ++ added) y
         by (inl opens_now) = noted_opened (none_acked (opened_fact note.fact opens_now)) opens_now
         by (inr other) = noted_other other
 
   -- a turn without a note
-  pub silent_step : f ≡ fact.Quiet → texts ≡ [] → y.sender.acked ≡ x.sender.acked → AreInStep kind front h (past ++ added) y
+  pub silent_step : f ≡ fact.Quiet → texts ≡ [] → y.sender.acked ≡ x.sender.acked → AreInStep numbered kind front h (past ++ added) y
   silent_step quiet none same = stays (sessions h) refl i.current
     where
       other : f ≡ fact.Opened → ⊥
       other is = (let no : fact.Quiet ≡ fact.Opened = sym quiet ∙ is in absurd (cc))
 
-      stays : (n : ℕ) → sessions h ≡ n → IsCurrent kind n (session_texts n h) (acked_in n h) past x → AreInStep kind front h (past ++ added) y
+      stays : (n : ℕ) → sessions h ≡ n → IsCurrent numbered kind n (session_texts n h) (acked_in n h) past x → AreInStep numbered kind front h (past ++ added) y
       stays n is c =
-          let l = turn_stays moment kind x y got f texts front past added (sessions h) (λ s. session_texts s h) (λ s. acked_in s h) y.sender.acked other t refl
-          (leaves_of kind front h past x i)
+          let l = turn_stays moment numbered kind x y got f texts front past added (sessions h) (λ s. session_texts s h) (λ s. acked_in s h) y.sender.acked other t refl
+          (leaves_of numbered kind front h past x i)
           in
           record {
             counted = l.counted;
@@ -178,9 +180,10 @@ module _ (moment : ℕ) (kind : LinkKind) (x y : SessionData) (got : Got) (f : L
             so_far = along;
           }
         where
-          last : (n : ℕ) → IsCurrent kind n (session_texts n h) (acked_in n h) past x → IsCurrent kind n (session_texts n h ++ texts) y.sender.acked (past ++ added) y →
-              IsCurrent kind n (session_texts n h) (acked_in n h) (past ++ added) y
+          last : (n : ℕ) → IsCurrent numbered kind n (session_texts n h) (acked_in n h) past x →
+              IsCurrent numbered kind n (session_texts n h ++ texts) y.sender.acked (past ++ added) y →
+              IsCurrent numbered kind n (session_texts n h) (acked_in n h) (past ++ added) y
           last zero c d = d
           last (suc n) c d =
-              current_as kind (suc n) (suc n) (session_texts (suc n) h ++ texts) (session_texts (suc n) h) y.sender.acked (acked_in (suc n) h) (past ++ added) y refl
+              current_as numbered kind (suc n) (suc n) (session_texts (suc n) h ++ texts) (session_texts (suc n) h) y.sender.acked (acked_in (suc n) h) (past ++ added) y refl
               (ap (λ (l : List (List ℕ)). session_texts (suc n) h ++ l) none ∙ append-nil (session_texts (suc n) h)) (same ∙ c.1) d

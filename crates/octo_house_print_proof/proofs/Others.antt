@@ -1,11 +1,10 @@
 -- A print over a call: what it sees of others.
-use Rattle.std.proofs.Common.{◌≡◌, ◌⊎◌, inl, inr, ℕ, ◌<◌, ◌≤◌, Bool, false, nat_eq, List, [], ◌∷◌, ◌++◌, length, drop, Option, None, Some, Result, Ok, Err, refl, sym, ◌∙◌, ap, subst, append-nil, arith}
+use Rattle.std.proofs.Common.{◌≡◌, ◌⊎◌, inl, inr, ℕ, ◌<◌, ◌≤◌, Bool, false, nat_eq, List, [], ◌∷◌, ◌++◌, length, drop, Option, None, Some, refl, sym, ◌∙◌, ap, subst, append-nil, arith}
 use Rattle.job_desk.specs.Data.{ScriptTexts, Data, Line}
 use Rattle.job_desk.specs.Table.{start_at, restart_at}
 use Rattle.job_desk.specs.Pull.{pull_step}
 use Rattle.job_desk.specs.Note.{note_step}
-use Rattle.job_desk.specs.Run.{Fate, Left, Unplugged, Broken, Run, after, after_start, after_restart, after_pull, after_note, print_lines, pulled_of, of_print, DeskCall, Connect, Disconnect, Select, DropFile, Start, Restart, Pause, Resume, Toggle, Cancel, Manually, Pull, Note, MayCall}
-use Rattle.job_desk.specs.declared.state.Refusal.{Refusal}
+use Rattle.job_desk.specs.Run.{Fate, Left, Unplugged, Broken, Run, after, after_restart, after_pull, after_note, print_lines, pulled_of, of_print, DeskCall, Connect, Disconnect, Select, DropFile, Start, Restart, Pause, Resume, Toggle, Cancel, Manually, Pull, Note, MayCall}
 use Rattle.job_desk.specs.declared.state.State.{State}
 use Rattle.job_desk.specs.declared.state.State.TheVariants.{Paused}
 use Rattle.job_desk.specs.declared.link_fact.LinkFact.{LinkFact}

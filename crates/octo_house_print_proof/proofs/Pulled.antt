@@ -3,7 +3,7 @@ use Rattle.std.proofs.Common.{◌≡◌, ◌⊎◌, inl, inr, ℕ, ◌+◌, ◌<
 use Rattle.std.proofs.lemmas.List.{length-append}
 use Rattle.std.proofs.lemmas.Bool.Decides.{nat_tests}
 use Rattle.job_desk.specs.Data.{Data, Line, with_script, moment_after}
-use Rattle.job_desk.specs.Pull.{Drawn, draw_in_order, nothing, next_number, keep_number, issue, from_scripts, from_manual, from_poll, poll_is_due, from_file, draw_at, is_issued, settle_at, settled, pull_step, draw_last}
+use Rattle.job_desk.specs.Pull.{Drawn, draw_in_order, nothing, next_number, keep_number, issue, from_scripts, from_manual, from_poll, poll_is_due, from_probe, probe_is_due, from_file, draw_at, is_issued, settle_at, settled, pull_step, draw_last}
 use Rattle.job_desk.specs.Course.{job_line}
 use Rattle.job_desk.specs.Run.{is_of, print_lines}
 use Rattle.job_desk.specs.declared.state.State.{State}
@@ -64,7 +64,7 @@ module _ (p : ℕ) (positive : nat_eq 0 p ≡ false) where
     line : (y.print_line ≡ number) ⊎ ((y.print_line ≡ x.print_line) × (is_of p tag ≡ false))
 
   keep_script : (q : ℕ) (at : Point) (number : ℕ) (x : Data) (b : Bool) → nat_eq q 0 ≡ b
-      → Keeps (Script at q) number x (cond b x (record x { print_line = number }))
+      → Keeps (Script at q) number x (cond b (record x { last_line = number }) (record x { print_line = number; last_line = number }))
   keep_script q at number x true is =
       let none : q ≡ 0 = grind (arith, nat_tests) in
       record { issued = refl; acked = refl; greatest = refl; state = refl; active = refl; line = inr (refl, ap (λ (k : ℕ). nat_eq k p) none ∙ positive) }
@@ -117,6 +117,13 @@ module _ (p : ℕ) (positive : nat_eq 0 p ≡ false) where
       choose_drawn d (poll_is_due moment d) (issue (record { text = codes "M105"; tag = Poll }) asked) next
       (draws_issue (record { text = codes "M105"; tag = Poll }) d asked (near d asked refl refl refl refl refl refl) (λ is none. (none, refl))) h
 
+  draws_probe : (awaited moment : ℕ) (d : Data) → Draws d (from_probe awaited moment d)
+  draws_probe awaited moment d =
+      let asked : Data = record d { probe_at = moment_after moment d.poll_ms } in
+      choose_drawn d (probe_is_due awaited moment d) (issue (record { text = codes "M400"; tag = Poll }) asked) (nothing d)
+      (draws_issue (record { text = codes "M400"; tag = Poll }) d asked (near d asked refl refl refl refl refl refl) (λ is none. (none, refl)))
+      (draws_none d)
+
   draws_file : (text : Option (List ℕ)) (d : Data) → d.state ≡ Printing → Draws d (from_file text d)
   draws_file None d e = draws_none d
   draws_file (Some text) d e =
@@ -127,17 +134,17 @@ module _ (p : ℕ) (positive : nat_eq 0 p ≡ false) where
   draws_talk : (moment : ℕ) (d : Data) (next : Drawn) → Draws d next → Draws d (draw_in_order moment d next)
   draws_talk moment d next h = draws_scripts d.waiting d _ refl (draws_manual d.manual d _ (draws_poll moment d next h))
 
-  draws_last : (b : Bool) (d : Data) → Draws d (draw_last b d)
-  draws_last false d = draws_scripts d.waiting d (nothing d) refl (draws_none d)
-  draws_last true d = draws_manual d.manual d (nothing d) (draws_none d)
+  draws_last : (b : Bool) (moment : ℕ) (d : Data) → Draws d (draw_last b moment d)
+  draws_last false moment d = draws_scripts d.waiting d _ refl (draws_probe d.last_line moment d)
+  draws_last true moment d = draws_manual d.manual d (nothing d) (draws_none d)
 
   draws_at : (s : State) (moment : ℕ) (d : Data) → d.state ≡ s → Draws d (draw_at s moment d)
   draws_at Offline moment d e = draws_none d
   draws_at Connecting moment d e = draws_none d
   draws_at Printing moment d e = draws_talk moment d _ (draws_file _ d e)
-  draws_at Closing moment d e = draws_last d.stopped d
+  draws_at Closing moment d e = draws_last d.stopped moment d
   draws_at Fault moment d e = draws_none d
-  draws_at _ moment d e = draws_talk moment d (nothing d) (draws_none d)
+  draws_at _ moment d e = draws_talk moment d _ (draws_probe d.issued moment d)
 
   pub same_settle : (s : State) (d : Data) → IsSame d (settle_at s d)
   same_settle Printing d =

@@ -122,8 +122,8 @@ ended_of p h fates f is (inl u) = absurd (let no : f ∷ [] ≡ [] = sym is ∙ 
 ended_of p h fates f is (inr o) = o
 
 -- what was sent since a timeline had come so far
-module _ (kind : LinkKind) (front : List WorldEvent) (p : ℕ) (first more : Timeline) (was : WasTied kind front first (events_of more))
-    (tied : Tied kind front (history_of first ++ history_of more) (past_after front first ++ events_of more)) where
+module _ (numbered : Bool) (kind : LinkKind) (front : List WorldEvent) (p : ℕ) (first more : Timeline) (was : WasTied numbered kind front first (events_of more))
+    (tied : Tied numbered kind front (history_of first ++ history_of more) (past_after front first ++ events_of more)) where
   abbrev now : History
   now = history_of first
 
@@ -145,7 +145,7 @@ module _ (kind : LinkKind) (front : List WorldEvent) (p : ℕ) (first more : Tim
   last zero is none = shut zero (shut_after now is)
   last (suc n) is none =
       let above : AreAbove (session_texts (sessions now) whole) (acked_in (sessions now) now) (till 0 since) =
-      later_above kind front now (history_of more) so_far since (omega (arith, is)) tied was.tied
+      later_above numbered kind front now (history_of more) so_far since (omega (arith, is)) tied was.tied
       in
       let there : AreAbove (texts_in (issued_of (suc n) whole)) (acked_in (suc n) now) (till 0 since) =
       subst (λ (k : ℕ). AreAbove (session_texts k whole) (acked_in k now) (till 0 since)) is above
@@ -170,7 +170,7 @@ module _ (kind : LinkKind) (front : List WorldEvent) (p : ℕ) (first more : Tim
       AreSentOther p (issued_of n whole) (events_of_session (opens front + n) (so_far ++ since))
   later_session n some most none =
       events_other p 0 (issued_of n whole) none (events_of_session (opens front + n) (so_far ++ since))
-      (issued_above kind (session_texts n whole) (acked_in n whole) (so_far ++ since) (opens front + n) (tied.each n some most))
+      (issued_above numbered kind (session_texts n whole) (acked_in n whole) (so_far ++ since) (opens front + n) (tied.each n some most))
 
   -- none of a print's lines, if it had ended then, and none was issued after
   pub ended_unsent : (fate : Fate) (fates : List Fate) → fates ≡ fate ∷ [] → (o : IsEnded p now fates) → (so : IsPast p now o.home) → LivesIn p whole o.home →
@@ -185,22 +185,22 @@ module _ (kind : LinkKind) (front : List WorldEvent) (p : ℕ) (first more : Tim
     never = λ n over most. later_session n (omega (arith, over)) most (stays.alone n (λ same. absurd (omega (arith, over, o.within, same))));
   }
 
-pub sent_no_more : (kind : LinkKind) (front : List WorldEvent) (s : Standing) (h : History) (past : List WorldEvent) (run : IsRun kind front s h past) →
+pub sent_no_more : (numbered : Bool) (kind : LinkKind) (front : List WorldEvent) (s : Standing) (h : History) (past : List WorldEvent) (run : IsRun numbered kind front s h past) →
     EachEndedIsSentNoMore kind front s run.tied.timeline
-sent_no_more kind front s h past run first more is p some fate ends =
-    let t = run_then kind front s h past run first more is in
+sent_no_more numbered kind front s h past run first more is p some fate ends =
+    let t = run_then numbered kind front s h past run first more is in
     let now : History = history_of first in
     let scripts : ScriptTexts = s.known.desk.scripts in
     let o : IsEnded p now (of_print p (run_in now s).ends) =
-    ended_of p now _ fate ends (lives_in scripts s.known.desk.limits s.known.desk.poll_ms p some s run.begins.new now t.legal t.short)
+    ended_of p now _ fate ends (lives_in scripts s.known.desk.limits s.known.desk.poll_ms s.known.desk.numbered p some s run.begins.new now t.legal t.short)
     in
     let so : IsPast p now o.home = past_of p now o.fate o.home o.leaves in
-    let stays = stays_in scripts s.known.desk.limits s.known.desk.poll_ms p some s run.begins.new now (history_of more) t.legal_all t.short_all
+    let stays = stays_in scripts s.known.desk.limits s.known.desk.poll_ms s.known.desk.numbered p some s run.begins.new now (history_of more) t.legal_all t.short_all
     o.fate o.home so.reach o.within o.is o.lives so.none
     in
     subst (λ (x : History). IsSentNoMore kind front p fate now x (past_after front first) (events_of more)) (sym (ap history_of is ∙ history_of-append first more))
-    (ended_unsent kind front p first more t.was t.tied_all fate _ ends o so stays.0 stays.1)
+    (ended_unsent numbered kind front p first more t.was t.tied_all fate _ ends o so stays.0 stays.1)
 
-pub true_end : (kind : LinkKind) (front : List WorldEvent) (s : Standing) (h : History) (past : List WorldEvent) (run : IsRun kind front s h past) →
-    EachEndIsTrue kind front run.tied.timeline
-true_end kind front s h past run first more is end ends = (run.tied.throughout first more is).caused end ends
+pub true_end : (numbered : Bool) (kind : LinkKind) (front : List WorldEvent) (s : Standing) (h : History) (past : List WorldEvent) (run : IsRun numbered kind front s h past) →
+    EachEndIsTrue numbered kind front run.tied.timeline
+true_end numbered kind front s h past run first more is end ends = (run.tied.throughout first more is).caused end ends

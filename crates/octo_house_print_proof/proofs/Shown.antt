@@ -1,5 +1,5 @@
 -- The prints that are shown.
-use Rattle.std.proofs.Common.{◌≡◌, ◌⊎◌, inl, inr, List, ◌∷◌, ◌++◌, map, take, reverse, filter, All, Option, None, Some, sym, subst}
+use Rattle.std.proofs.Common.{◌≡◌, ◌⊎◌, inl, inr, Bool, List, ◌∷◌, ◌++◌, map, take, reverse, filter, All, Option, None, Some, sym, subst}
 use Rattle.std.proofs.lemmas.List.Elements.{All-map, All-take, All-filter}
 use Rattle.std.proofs.lemmas.List.Sorted.{All-permutation, IsPermutation-reverse}
 use Rattle.octo_access.specs.Rights.{caller}
@@ -44,13 +44,14 @@ module _ (P : ShownPrint → Type 0) (k : Known) (all : All (λ (row : PrintRow)
   of_allowed None user may = of_list user may
   of_allowed (Some lacks) user may = absurd (cc may)
 
-  of_user : (o : Option UserRow) (ps : List Permission) → May (verdict_of_caller o ps k (λ user. list_prints_verdict user k)) (answer.Prints shown) → All P shown
+  of_user : (o : Option UserRow) (ps : List Permission) → May (verdict_of_caller o ps k (λ user. list_prints_verdict user k)) (answer.Prints shown) →
+      All P shown
   of_user None ps may = absurd (cc may)
   of_user (Some user) ps may = of_allowed (lacking k user ps) user may
 
-pub shown_true : (kind : LinkKind) (front : List WorldEvent) (s : Standing) (h : History) (past : List WorldEvent) (run : IsRun kind front s h past) →
+pub shown_true : (numbered : Bool) (kind : LinkKind) (front : List WorldEvent) (s : Standing) (h : History) (past : List WorldEvent) (run : IsRun numbered kind front s h past) →
     EachDoneShownIsTrue kind front s run.tied.timeline
-shown_true kind front s h past run first later here is worker ask moment shown answers lists = by legal.1.0.1.may
+shown_true numbered kind front s h past run first later here is worker ask moment shown answers lists = by legal.1.0.1.may
   where
     now : History
     now = history_of first
@@ -58,10 +59,10 @@ shown_true kind front s h past run first later here is worker ask moment shown a
     legal : Legal now s × Legal (entry.Call worker ask moment (answer.Prints shown) ∷ history_of later) (after_all now s)
     legal =
         legal_first now (entry.Call worker ask moment (answer.Prints shown) ∷ history_of later) s
-        (subst (λ (e : Entry). Legal (now ++ e ∷ history_of later) s) answers (run_then kind front s h past run first (here ∷ later) is).legal_all)
+        (subst (λ (e : Entry). Legal (now ++ e ∷ history_of later) s) answers (run_then numbered kind front s h past run first (here ∷ later) is).legal_all)
 
     rows : All (IsDoneRecordTrue kind front s first) (after_all now s).known.prints
-    rows = record_true kind front s h past run first (here ∷ later) is
+    rows = record_true numbered kind front s h past run first (here ∷ later) is
 
     by : (answer.Prints shown ≡ answer.NoMemory) ⊎ May (verdict_by (needed ask.request) ask.key ask.request (after_all now s).files (after_all now s).known)
         (answer.Prints shown) → All (IsDoneShownTrue kind front s first) shown

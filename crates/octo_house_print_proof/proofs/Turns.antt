@@ -3,7 +3,7 @@ use Rattle.std.proofs.Common.{length, ◌≡◌, ◌⊎◌, inl, inr, ℕ, zero,
 use Rattle.std.specs.List.{list_any, list_all}
 use Rattle.job_desk.specs.declared.link_fact.LinkFact.{LinkFact}
 use Rattle.job_desk.specs.declared.link_fact.LinkFact.TheVariants as fact
-use Rattle.printer_model.specs.World.{WorldData, is_free, is_send}
+use Rattle.printer_model.specs.World.{is_free, is_send}
 use Rattle.printer_model.specs.Executed.{opens, till}
 use Rattle.printer_model.specs.declared.event.WorldEvent.{WorldEvent}
 use Rattle.printer_model.specs.declared.event.WorldEvent.TheVariants.{Opened, Closed}
@@ -14,22 +14,19 @@ use Rattle.printer_link.specs.Suits.{Suits}
 use Rattle.send_window.specs.Data.{SenderData, IsSound, most_lines}
 use Rattle.octo_session.specs.Data.{SessionData, doing}
 use Rattle.octo_session.specs.Found.{Got, unasked, may_issue, can_find}
-use Rattle.octo_session.specs.Steps.{hangs_up, AreAdded, turn_steps}
-use Rattle.octo_session.specs.declared.found.Doing.{Doing}
-use Rattle.octo_session.specs.declared.found.Doing.TheVariants.{Dialling, HangingUp, UsingLink, Resting}
-use Rattle.octo_session_line_proof.specs.Issuing.{issued_in}
+use Rattle.octo_session.specs.declared.found.Doing.TheVariants.{Dialling, UsingLink}
 use Rattle.octo_session_line_proof.specs.Linked.{IsOpened}
 use Rattle.octo_session.specs.Tied.{IsTied}
 use Rattle.octo_session_line_proof.proofs.Ends.{idle_turn}
 use Rattle.octo_session_line_proof.proofs.Turned.{IsTurned, talks_up, opens_dialling, idle_steps, down_after}
-use Rattle.octo_session_line_proof.proofs.Turning.{going_on, is_opened_fact}
+use Rattle.octo_session_line_proof.proofs.Turning.{turn_kind, going_on, is_opened_fact}
 use Rattle.octo_session_line_proof.proofs.Turns.{none_opened, dial_of, made_now}
 use Rattle.octo_session_line_proof.specs.History.{IsMade}
 use Rattle.octo_house_rules.specs.Sessions.{most_in}
 use Rattle.octo_house_print_proof.specs.InStep.{IsUnmade, IsCurrent}
 use Rattle.octo_house_print_proof.proofs.Longer.{dialled_tied}
 use Rattle.octo_house_print_proof.proofs.Grown.{below_or}
-use Rattle.octo_house_print_proof.proofs.Earlier.{tied_before, till-none, unsent_free}
+use Rattle.octo_house_print_proof.proofs.Earlier.{tied_before, tied_of, till-none, unsent_free}
 use Rattle.octo_session_line_proof.proofs.Speech.{issued_in_other}
 
 -- what a turn that neither uses the link nor makes one adds
@@ -47,11 +44,11 @@ not_talking : (x : SessionData) → x.up ≡ false → doing x ≡ UsingLink →
 not_talking x down talks = (let up : x.up ≡ true = talks_up x talks in absurd (cc))
 
 -- what a turn leaves of n sessions, of which these texts were issued and this number of lines acknowledged
-pub record Leaves (kind : LinkKind) (front : List WorldEvent) (n : ℕ) (texts : ℕ → List (List ℕ)) (acked : ℕ → ℕ) (last : List (List ℕ)) (last_acked : ℕ)
+pub record Leaves (numbered : Bool) (kind : LinkKind) (front : List WorldEvent) (n : ℕ) (texts : ℕ → List (List ℕ)) (acked : ℕ → ℕ) (last : List (List ℕ)) (last_acked : ℕ)
     (past : List WorldEvent) (x : SessionData) : Type 0 where
   pub counted : opens past ≡ opens front + n
-  pub former : (s : ℕ) → 1 ≤ s → s < n → IsTied kind (texts s) (acked s) past (opens front + s)
-  pub current : IsCurrent kind n last last_acked past x
+  pub former : (s : ℕ) → 1 ≤ s → s < n → IsTied numbered kind (texts s) (acked s) past (opens front + s)
+  pub current : IsCurrent numbered kind n last last_acked past x
   pub few : length last ≤ most_in n
 
 -- an opened session issued at most as many lines as it has numbers for
@@ -61,30 +58,31 @@ few_opened kind issued x past o =
     let n = o.traced.meets.numbers in
     omega (arith, n.holds.count, n.sound.few)
 
-module _ (moment : ℕ) (kind : LinkKind) (old new : SessionData) (got : Got) (found : LinkFact) (issued : List (List ℕ)) where
+module _ (moment : ℕ) (numbered : Bool) (kind : LinkKind) (old new : SessionData) (got : Got) (found : LinkFact) (issued : List (List ℕ)) where
   -- the sessions before the last one
   former_stay : (front past added : List WorldEvent) (n : ℕ) (texts : ℕ → List (List ℕ)) (acked : ℕ → ℕ) → opens past ≡ opens front + n →
-      ((s : ℕ) → 1 ≤ s → s < n → IsTied kind (texts s) (acked s) past (opens front + s)) →
-      (s : ℕ) → 1 ≤ s → s < n → IsTied kind (texts s) (acked s) (past ++ added) (opens front + s)
+      ((s : ℕ) → 1 ≤ s → s < n → IsTied numbered kind (texts s) (acked s) past (opens front + s)) →
+      (s : ℕ) → 1 ≤ s → s < n → IsTied numbered kind (texts s) (acked s) (past ++ added) (opens front + s)
   former_stay front past added n texts acked counted former s some below =
-      tied_before kind (texts s) (acked s) past added (opens front + s) (omega (arith, counted, below)) (former s some below)
+      tied_before numbered kind (texts s) (acked s) past added (opens front + s) (omega (arith, counted, below)) (former s some below)
 
   -- no link was made yet, nor is one made
   unmade_stays : (past added : List WorldEvent) → (found ≡ fact.Opened → ⊥) → IsTurned moment kind old new got found issued (world_in kind past) added →
-      IsUnmade kind old → IsUnmade kind new
+      IsUnmade numbered kind old → IsUnmade numbered kind new
   unmade_stays past added other t u =
       let idle : doing old ≡ UsingLink → ⊥ = not_talking old u.down in
       let same : new.sender ≡ old.sender = t.sender ∙ idle_steps moment (doing old) old.up got found issued t.count old.sender idle other in
       record {
         down = t.up ∙ down_after (doing old) found old.up t.can idle other u.down;
         sound = subst (λ (s : SenderData). IsSound s) (sym same) u.sound;
+        numbered_is = ap (λ (s : SenderData). s.numbered) same ∙ u.numbered_is;
         suits = u.suits;
       }
 
   -- a turn that makes no link
   pub turn_stays : (front past added : List WorldEvent) (n : ℕ) (texts : ℕ → List (List ℕ)) (acked : ℕ → ℕ) (last_acked : ℕ) → (found ≡ fact.Opened → ⊥) →
       IsTurned moment kind old new got found issued (world_in kind past) added → new.sender.acked ≡ last_acked →
-      Leaves kind front n texts acked (texts n) (acked n) past old → Leaves kind front n texts acked (texts n ++ issued) last_acked (past ++ added) new
+      Leaves numbered kind front n texts acked (texts n) (acked n) past old → Leaves numbered kind front n texts acked (texts n ++ issued) last_acked (past ++ added) new
   turn_stays front past added zero texts acked last_acked other t same l =
       let idle : doing old ≡ UsingLink → ⊥ = not_talking old l.current.down in
       let none : IsIdle added =
@@ -110,6 +108,7 @@ module _ (moment : ℕ) (kind : LinkKind) (old new : SessionData) (got : Got) (f
         current = (
           subst O (issued_in_other found issued (texts (suc n)) other) (going_on moment kind old new got found issued (texts (suc n)) past added other t o),
           same,
+          turn_kind moment kind old new got found issued (world_in kind past) added t ∙ l.current.2,
         );
         few = few_opened kind (texts (suc n) ++ issued) new (past ++ added)
             (subst O (issued_in_other found issued (texts (suc n)) other) (going_on moment kind old new got found issued (texts (suc n)) past added other t o));
@@ -118,7 +117,7 @@ module _ (moment : ℕ) (kind : LinkKind) (old new : SessionData) (got : Got) (f
   -- a turn that makes a link
   pub turn_opens : (front past added : List WorldEvent) (n : ℕ) (texts : ℕ → List (List ℕ)) (acked : ℕ → ℕ) (last_acked : ℕ) → found ≡ fact.Opened →
       IsTurned moment kind old new got found issued (world_in kind past) added → new.sender.acked ≡ last_acked →
-      Leaves kind front n texts acked (texts n) (acked n) past old → Leaves kind front (suc n) texts acked [] last_acked (past ++ added) new
+      Leaves numbered kind front n texts acked (texts n) (acked n) past old → Leaves numbered kind front (suc n) texts acked [] last_acked (past ++ added) new
   turn_opens front past added n texts acked last_acked is t same l =
       let dial : IsDial (world_in kind past) added = dial_of moment kind old new got found issued past added is t in
       let made : IsMade kind [] new past added =
@@ -127,38 +126,49 @@ module _ (moment : ℕ) (kind : LinkKind) (old new : SessionData) (got : Got) (f
       record {
         counted = omega (arith, opens-append past added, l.counted, made.once);
         former = λ s some below. former_by front past added n texts acked dial l s some below;
-        current = (made.opened, same);
+        current = (
+          made.opened,
+          same,
+          turn_kind moment kind old new got found issued (world_in kind past) added t ∙ kind_at n (texts n) (acked n) past old l.current,
+        );
         few = omega arith;
       }
     where
       dials : found ≡ fact.Opened → IsTurned moment kind old new got found issued (world_in kind past) added → doing old ≡ Dialling
       dials is t = (let F : LinkFact → Type 0 = λ f. can_find (doing old) f ≡ true in opens_dialling (doing old) (subst F is t.can))
 
-      sound_at : (n : ℕ) (texts : List (List ℕ)) (acked : ℕ) (past : List WorldEvent) (x : SessionData) → IsCurrent kind n texts acked past x → IsSound x.sender
+      sound_at : (n : ℕ) (texts : List (List ℕ)) (acked : ℕ) (past : List WorldEvent) (x : SessionData) → IsCurrent numbered kind n texts acked past x →
+          IsSound x.sender
       sound_at zero texts acked past x u = u.sound
       sound_at (suc n) texts acked past x c = c.0.traced.meets.numbers.sound
 
-      suits_at : (n : ℕ) (texts : List (List ℕ)) (acked : ℕ) (past : List WorldEvent) (x : SessionData) → IsCurrent kind n texts acked past x → Suits false kind.oks
-      suits_at zero texts acked past x u = u.suits
+      suits_at : (n : ℕ) (texts : List (List ℕ)) (acked : ℕ) (past : List WorldEvent) (x : SessionData) → IsCurrent numbered kind n texts acked past x
+          → Suits x.sender.numbered kind.oks
+      suits_at zero texts acked past x u = subst (λ (b : Bool). Suits b kind.oks) (sym u.numbered_is) u.suits
       suits_at (suc n) texts acked past x c = c.0.suits
+
+      kind_at : (n : ℕ) (texts : List (List ℕ)) (acked : ℕ) (past : List WorldEvent) (x : SessionData) → IsCurrent numbered kind n texts acked past x
+          → x.sender.numbered ≡ numbered
+      kind_at zero texts acked past x u = u.numbered_is
+      kind_at (suc n) texts acked past x c = c.2
 
       -- the last one with what ran in the dial
       ended_by : (front past added : List WorldEvent) (n : ℕ) (texts : List (List ℕ)) (acked : ℕ) → IsDial (world_in kind past) added →
-          opens past ≡ opens front + n → 1 ≤ n → IsCurrent kind n texts acked past old → IsTied kind texts acked (past ++ added) (opens front + n)
+          opens past ≡ opens front + n → 1 ≤ n → IsCurrent numbered kind n texts acked past old → IsTied numbered kind texts acked (past ++ added) (opens front + n)
       ended_by front past added zero texts acked dial counted some c = absurd (omega arith)
       ended_by front past added (suc n) texts acked dial counted some c =
-          subst (λ (a : ℕ). IsTied kind texts a (past ++ added) (opens front + suc n)) c.1
-          (subst (λ (s : ℕ). IsTied kind texts old.sender.acked (past ++ added) s) counted (dialled_tied kind texts old past added dial c.0))
+          tied_of numbered kind texts old.sender acked (past ++ added) (opens front + suc n) c.1 c.2
+          (subst (λ (s : ℕ). IsTied old.sender.numbered kind texts old.sender.acked (past ++ added) s) counted (dialled_tied kind texts old past added dial c.0))
 
       former_by : (front past added : List WorldEvent) (n : ℕ) (texts : ℕ → List (List ℕ)) (acked : ℕ → ℕ) → IsDial (world_in kind past) added →
-          Leaves kind front n texts acked (texts n) (acked n) past old → (s : ℕ) → 1 ≤ s → s < suc n →
-          IsTied kind (texts s) (acked s) (past ++ added) (opens front + s)
+          Leaves numbered kind front n texts acked (texts n) (acked n) past old → (s : ℕ) → 1 ≤ s → s < suc n →
+          IsTied numbered kind (texts s) (acked s) (past ++ added) (opens front + s)
       former_by front past added n texts acked dial l s some below = by (below_or s n below)
         where
-          by : (s < n) ⊎ (s ≡ n) → IsTied kind (texts s) (acked s) (past ++ added) (opens front + s)
-          by (inl less) = tied_before kind (texts s) (acked s) past added (opens front + s) (omega (arith, l.counted, less)) (l.former s some less)
+          by : (s < n) ⊎ (s ≡ n) → IsTied numbered kind (texts s) (acked s) (past ++ added) (opens front + s)
+          by (inl less) = tied_before numbered kind (texts s) (acked s) past added (opens front + s) (omega (arith, l.counted, less)) (l.former s some less)
           by (inr same) =
-              subst (λ (k : ℕ). IsTied kind (texts k) (acked k) (past ++ added) (opens front + k)) (sym same)
+              subst (λ (k : ℕ). IsTied numbered kind (texts k) (acked k) (past ++ added) (opens front + k)) (sym same)
               (ended_by front past added n (texts n) (acked n) dial l.counted (omega (arith, same, some)) l.current)
 
   -- over no link a turn sends nothing until it makes one

@@ -1,5 +1,5 @@
 -- A host between two turns of its link: its history, the link's history and its session are in step.
-use Rattle.std.specs.Prelude.{◌≡◌, ℕ, zero, suc, ◌+◌, ◌<◌, ◌≤◌, false, List, [], ◌∷◌, ◌++◌, length, Option}
+use Rattle.std.specs.Prelude.{◌≡◌, ℕ, zero, suc, ◌+◌, ◌<◌, ◌≤◌, Bool, false, List, [], ◌∷◌, ◌++◌, length, Option}
 use Rattle.printer_model.specs.Executed.{opens}
 use Rattle.printer_model.specs.declared.event.WorldEvent.{WorldEvent}
 use Rattle.printer_link.specs.Link.{LinkKind}
@@ -23,40 +23,43 @@ AreCalls (entry.Note note ∷ es) = ⊥
 AreCalls (entry.Close ∷ es) = ⊥
 
 -- no link was made yet, and one that is made suits the session's sender
-pub record IsUnmade (kind : LinkKind) (x : SessionData) : Type 0 where
+pub record IsUnmade (numbered : Bool) (kind : LinkKind) (x : SessionData) : Type 0 where
   pub down : x.up ≡ false
   pub sound : IsSound x.sender
-  pub suits : Suits false kind.oks
+  pub numbered_is : x.sender.numbered ≡ numbered
+  pub suits : Suits numbered kind.oks
 
 -- the host's session, its issued texts and acknowledged lines, and the last link that was made; or none was made yet
-abbrev pub IsCurrent : LinkKind → ℕ → List (List ℕ) → ℕ → List WorldEvent → SessionData → Type 0
-IsCurrent kind zero texts acked past x = IsUnmade kind x
-IsCurrent kind (suc session) texts acked past x = IsOpened kind texts x past × (x.sender.acked ≡ acked)
+abbrev pub IsCurrent : Bool → LinkKind → ℕ → List (List ℕ) → ℕ → List WorldEvent → SessionData → Type 0
+IsCurrent numbered kind zero texts acked past x = IsUnmade numbered kind x
+IsCurrent numbered kind (suc session) texts acked past x =
+    IsOpened kind texts x past × (x.sender.acked ≡ acked) × (x.sender.numbered ≡ numbered)
 
 -- one order of a history and of its link's history since an earlier one, which was tied after every entry, and what the link
 -- has recorded since the last entry
-pub record TiedSoFar (kind : LinkKind) (front : List WorldEvent) (history : History) (past : List WorldEvent) : Type 0 where
+pub record TiedSoFar (numbered : Bool) (kind : LinkKind) (front : List WorldEvent) (history : History) (past : List WorldEvent) : Type 0 where
   pub timeline : Timeline
   pub rest : List WorldEvent
   pub history_is : history ≡ history_of timeline
   pub past_is : past ≡ past_after front timeline ++ rest
-  pub throughout : (first later : Timeline) → timeline ≡ first ++ later → WasTied kind front first (events_of later ++ rest)
+  pub throughout : (first later : Timeline) → timeline ≡ first ++ later → WasTied numbered kind front first (events_of later ++ rest)
 
 -- a host's history, its link's history since an earlier one, and the host's session
-pub record AreInStep (kind : LinkKind) (front : List WorldEvent) (history : History) (past : List WorldEvent)
+pub record AreInStep (numbered : Bool) (kind : LinkKind) (front : List WorldEvent) (history : History) (past : List WorldEvent)
     (x : SessionData) : Type 0 where
   -- the link was made once for each session
   pub counted : opens past ≡ opens front + sessions history
   -- the sessions before the last one are tied
   pub former : (session : ℕ) → 1 ≤ session → session < sessions history
-      → IsTied kind (session_texts session history) (acked_in session history) past (opens front + session)
+      → IsTied numbered kind (session_texts session history) (acked_in session history) past (opens front + session)
   pub few : (session : ℕ) → session ≤ sessions history → length (session_texts session history) ≤ most_in session
   -- the last one is the host's
-  pub current : IsCurrent kind (sessions history) (session_texts (sessions history) history)
+  pub current : IsCurrent numbered kind (sessions history) (session_texts (sessions history) history)
       (acked_in (sessions history) history) past x
   pub open_as : is_open history ≡ x.up
-  pub so_far : TiedSoFar kind front history past
+  pub so_far : TiedSoFar numbered kind front history past
 
 -- a host is in step with its recorded histories
-abbrev pub InStep : LinkKind → (before now : Option History) → (front past : Option (List WorldEvent)) → SessionData → Type 0
-InStep kind before now front past x = WhileRecorded before now front past (λ old added events. AreInStep kind old added events x)
+abbrev pub InStep : Bool → LinkKind → (before now : Option History) → (front past : Option (List WorldEvent)) → SessionData → Type 0
+InStep numbered kind before now front past x =
+    WhileRecorded before now front past (λ old added events. AreInStep numbered kind old added events x)

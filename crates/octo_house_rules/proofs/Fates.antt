@@ -4,7 +4,7 @@ use Rattle.std.proofs.lemmas.Bool.Decides.{nat_tests}
 use Rattle.std.proofs.lemmas.List.{length-map}
 use Rattle.std.proofs.lemmas.List.Sums.{fold-append}
 use Rattle.job_desk.specs.Data.{Data}
-use Rattle.job_desk.specs.Note.{Noted, is_over, end_at, after_ending, after_open, ready_at, leave, fail, finish, hung_up, note_fact, note_step}
+use Rattle.job_desk.specs.Note.{Noted, is_over, end_at, after_ending, after_open, ready_at, leave, fail, finish, hung_up, with_acked, note_fact, note_step}
 use Rattle.job_desk.specs.Run.{DeskCall, Connect, Disconnect, Select, DropFile, Start, Restart, Pause, Resume, Toggle, Cancel, Manually, Pull, Note, Fate, Left, Run, after, after_start, after_restart, after_pull, after_note, run_of, fate_of, of_print}
 use Rattle.job_desk.specs.Pull.{pull_step}
 use Rattle.job_desk.specs.Table.{start_at, restart_at}
@@ -208,7 +208,7 @@ named-fact (fact.Ended end) moment d = named-fail d.greatest (after_ending d) (n
 
 -- a note ends only the greatest print
 pub named_note : (acked : ℕ) (found : LinkFact) (moment : ℕ) (d : Data) → Named d.greatest (note_step acked found moment d).0
-named_note acked found moment d = named-fact found moment (record d { acked = acked })
+named_note acked found moment d = named-fact found moment (with_acked acked moment d)
 
 -- a restart that is done leaves the greatest print
 pub restart_leaves : (s : State) (print former : ℕ) (d : Data) → (restart_at s print d).0 ≡ Ok former → former ≡ d.greatest

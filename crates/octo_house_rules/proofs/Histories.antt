@@ -140,11 +140,11 @@ joined_all (e ∷ es) s l n =
     )
 
 -- calls that may be made at a new desk, and that pull the lines of a history
-pub scripts_of : (scripts : ScriptTexts) (limits : Limits) (poll_ms : ℕ) (calls : List DeskCall) (d : Data) (h : History) → d ≡ new_desk scripts limits poll_ms
+pub scripts_of : (scripts : ScriptTexts) (limits : Limits) (poll_ms : ℕ) (numbered : Bool) (calls : List DeskCall) (d : Data) (h : History) → d ≡ new_desk scripts limits poll_ms numbered
     → MayAll calls d → lines_pulled calls d ≡ issued_in h → HasScripts scripts (run_of calls (new_run d)) h
-scripts_of scripts limits poll_ms calls d h e may pulls =
+scripts_of scripts limits poll_ms numbered calls d h e may pulls =
     let t : HasStories scripts (run_of calls (new_run d)) =
-    subst (λ x. HasStories scripts (run_of calls (new_run x))) (sym e) (every_run scripts limits poll_ms calls (may_run calls (new_run (new_desk scripts limits poll_ms)) (subst (λ x. MayAll calls x) e may))) in
+    subst (λ x. HasStories scripts (run_of calls (new_run x))) (sym e) (every_run scripts limits poll_ms numbered calls (may_run calls (new_run (new_desk scripts limits poll_ms numbered)) (subst (λ x. MayAll calls x) e may))) in
     record {
       stories = λ print positive. (
           let same : pulled_of print (run_of calls (new_run d)).pulled ≡ trace print h = of_pulled print (run_of calls (new_run d)).pulled ∙ ap (λ lines. print_lines print lines) (pulled_all calls (new_run d) ∙ pulls) in
@@ -154,13 +154,13 @@ scripts_of scripts limits poll_ms calls d h e may pulls =
     }
 
 -- a new desk has no number above the count of records
-pub new_numbered : (scripts : ScriptTexts) (limits : Limits) (poll_ms : ℕ) (k : Known) → k.desk ≡ new_desk scripts limits poll_ms → IsNumbered k
-new_numbered scripts limits poll_ms k e = subst (λ (d : Data). d.greatest ≤ length k.prints) (sym e) (omega arith)
+pub new_numbered : (scripts : ScriptTexts) (limits : Limits) (poll_ms : ℕ) (numbered : Bool) (k : Known) → k.desk ≡ new_desk scripts limits poll_ms numbered → IsNumbered k
+new_numbered scripts limits poll_ms numbered k e = subst (λ (d : Data). d.greatest ≤ length k.prints) (sym e) (omega arith)
 
 pub keeps_scripts : EveryHistoryKeepsScripts
-keeps_scripts scripts limits poll_ms h s e l =
-    let j : MayAll (calls_of_all h s) s.known.desk × (lines_pulled (calls_of_all h s) s.known.desk ≡ issued_in h) = joined_all h s l (new_numbered scripts limits poll_ms s.known e) in
-    scripts_of scripts limits poll_ms (calls_of_all h s) s.known.desk h e j.0 j.1
+keeps_scripts scripts limits poll_ms numbered h s e l =
+    let j : MayAll (calls_of_all h s) s.known.desk × (lines_pulled (calls_of_all h s) s.known.desk ≡ issued_in h) = joined_all h s l (new_numbered scripts limits poll_ms numbered s.known e) in
+    scripts_of scripts limits poll_ms numbered (calls_of_all h s) s.known.desk h e j.0 j.1
 
 told_all : (h : History) (s : Standing) → Legal h s → IsNumbered s.known → (before : ℕ) (ends : List (ℕ × Fate)) → Tells before ends s.known.prints → Tells before (ends_all (calls_of_all h s) s.known.desk ends) (after_all h s).known.prints
 told_all [] s l n before ends t = t
@@ -196,6 +196,6 @@ outcomes_of before calls d rows t =
     (subst (λ ends. Each (HasOutcome before ends) rows) (sym (ends_run calls (new_run d))) t.outcomes)
 
 pub keeps_outcomes : EveryHistoryKeepsOutcomes
-keeps_outcomes scripts limits poll_ms h s e old l =
+keeps_outcomes scripts limits poll_ms numbered h s e old l =
     outcomes_of (length s.known.prints) (calls_of_all h s) s.known.desk (after_all h s).known.prints
-    (told_all h s l (new_numbered scripts limits poll_ms s.known e) (length s.known.prints) [] (none_told s.known.prints old))
+    (told_all h s l (new_numbered scripts limits poll_ms numbered s.known e) (length s.known.prints) [] (none_told s.known.prints old))

@@ -1,5 +1,5 @@
 -- What a host begins with.
-use Rattle.std.specs.Prelude.{◌≡◌, ℕ, List, map}
+use Rattle.std.specs.Prelude.{Bool, ◌≡◌, ℕ, List, map}
 use Rattle.std.specs.List.Sorted.{IsPermutation}
 use Rattle.octo_access.specs.Rows.{IsUserTable}
 use Rattle.octo_access.specs.declared.policy.Policy.{Policy}
@@ -26,12 +26,12 @@ abbrev pub row_read : PrintRow → PrintRow
 row_read row = record row { outcome = outcome_read row.outcome }
 
 -- a host with a new desk knows the loaded rows, sorted, and the names of the files
-pub record Begins (scripts : ScriptTexts) (limits : Limits) (poll_ms : ℕ) (policy : Policy) (ports : List (List ℕ)) (material : List ℕ)
+pub record Begins (scripts : ScriptTexts) (limits : Limits) (poll_ms : ℕ) (numbered : Bool) (policy : Policy) (ports : List (List ℕ)) (material : List ℕ)
     (tables : Tables) (files : List ShelfFile) (k : Known) : Type 0 where
   pub policy_is : k.policy ≡ policy
   pub ports_are : k.ports ≡ ports
   pub material_is : k.material ≡ material
-  pub desk : k.desk ≡ new_desk scripts limits poll_ms
+  pub desk : k.desk ≡ new_desk scripts limits poll_ms numbered
   pub temps : k.temps ≡ no_temps
   pub users : IsPermutation tables.users k.users
   pub user_table : IsUserTable k.users

@@ -1,5 +1,5 @@
 -- The outcomes of the prints in a history.
-use Rattle.std.specs.Prelude.{◌≡◌, ℕ, ◌<◌, ◌≤◌, List, length, fold, All}
+use Rattle.std.specs.Prelude.{Bool, ◌≡◌, ℕ, ◌<◌, ◌≤◌, List, length, fold, All}
 use Rattle.temp_rules.specs.declared.limits.Limits.{Limits}
 use Rattle.job_desk.specs.Data.{ScriptTexts, new_desk}
 use Rattle.job_desk.specs.Run.{Fate, Finished, Stopped, Left, Unplugged, Broken, of_print}
@@ -29,6 +29,6 @@ HasOutcome before ends row = before < row.number → row.outcome ≡ outcome_by 
 -- the law, for a host whose records have no number above their count
 abbrev pub EveryHistoryKeepsOutcomes : Type 0
 EveryHistoryKeepsOutcomes =
-    (scripts : ScriptTexts) (limits : Limits) (poll_ms : ℕ) (history : History) (s : Standing) → s.known.desk ≡ new_desk scripts limits poll_ms
+    (scripts : ScriptTexts) (limits : Limits) (poll_ms : ℕ) (numbered : Bool) (history : History) (s : Standing) → s.known.desk ≡ new_desk scripts limits poll_ms numbered
     → All (λ (row : PrintRow). row.number ≤ length s.known.prints) s.known.prints → Legal history s
     → All (HasOutcome (length s.known.prints) (run_in history s).ends) (after_all history s).known.prints

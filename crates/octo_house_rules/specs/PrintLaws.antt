@@ -1,5 +1,5 @@
 -- What holds of the prints of a host over a lossy line.
-use Rattle.std.specs.Prelude.{◌≡◌, ◌⊎◌, ℕ, ◌+◌, ◌<◌, ◌≤◌, true, false, List, [], ◌∷◌, ◌++◌, length, take, slice_get, Some, All}
+use Rattle.std.specs.Prelude.{◌≡◌, ◌⊎◌, ℕ, ◌+◌, ◌<◌, ◌≤◌, Bool, true, false, List, [], ◌∷◌, ◌++◌, length, take, slice_get, Some, All}
 use Rattle.job_desk.specs.Course.{Done, Course}
 use Rattle.job_desk.specs.Data.{ScriptTexts, Data, Line, new_desk}
 use Rattle.job_desk.specs.Run.{Fate, Finished, is_of, print_lines, of_print}
@@ -32,7 +32,7 @@ use Rattle.octo_house_rules.specs.Lives.{LivesIn, LeavesSo}
 
 -- a desk at which nothing was done yet
 abbrev pub IsNewDesk : Data → Type 0
-IsNewDesk d = d ≡ new_desk d.scripts d.limits d.poll_ms
+IsNewDesk d = d ≡ new_desk d.scripts d.limits d.poll_ms d.numbered
 
 -- what a host knows as it begins: its desk is new, and its records of prints are numbered from 1 without a gap
 pub record IsBeginning (k : Known) : Type 0 where
@@ -148,9 +148,10 @@ EachEndedIsSentNoMore kind front s timeline =
     → IsSentNoMore kind front print fate (history_of first) (history_of timeline) (past_after front first) (events_of later)
 
 -- the end of a session that an entry notes had a cause that the link's history showed then, for each entry: a session never ends
--- for a Resend of a line acknowledged or after the next one to issue, nor for an `ok` of another line; as restarted only after a restart
--- of the printer in that session; for no answer only if the printer was silent
-abbrev pub EachEndIsTrue : LinkKind → List WorldEvent → Timeline → Type 0
-EachEndIsTrue kind front timeline =
+-- for a Resend of a line after the next one to issue, nor for an `ok` of another line; for a Resend of an acknowledged line only if
+-- `ok`s count by their numbers and the printer restarted in that session; as restarted only if it did; for no answer only if the
+-- printer was silent
+abbrev pub EachEndIsTrue : Bool → LinkKind → List WorldEvent → Timeline → Type 0
+EachEndIsTrue numbered kind front timeline =
     (first later : Timeline) → timeline ≡ first ++ later → (end : SessionEnd) → last_end (history_of first) ≡ Some end
-    → IsEndCaused kind end (past_after front first)
+    → IsEndCaused numbered kind end (past_after front first)

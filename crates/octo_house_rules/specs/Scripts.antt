@@ -1,5 +1,5 @@
 -- The scripts of the prints in a history.
-use Rattle.std.specs.Prelude.{◌≡◌, ℕ, ◌<◌, List, [], ◌∷◌, ◌++◌, All}
+use Rattle.std.specs.Prelude.{Bool, ◌≡◌, ℕ, ◌<◌, List, [], ◌∷◌, ◌++◌, All}
 use Rattle.temp_rules.specs.declared.limits.Limits.{Limits}
 use Rattle.job_desk.specs.Data.{ScriptTexts, new_desk}
 use Rattle.job_desk.specs.Run.{DeskCall, Run, Pulled, new_run, run_of, of_print}
@@ -41,6 +41,6 @@ KeepsScripts scripts history s = HasScripts scripts (run_in history s) history
 -- the law: so does every legal history of a host that begins with a new desk
 abbrev pub EveryHistoryKeepsScripts : Type 0
 EveryHistoryKeepsScripts =
-    (scripts : ScriptTexts) (limits : Limits) (poll_ms : ℕ) (history : History) (s : Standing)
-    → s.known.desk ≡ new_desk scripts limits poll_ms → Legal history s
+    (scripts : ScriptTexts) (limits : Limits) (poll_ms : ℕ) (numbered : Bool) (history : History) (s : Standing)
+    → s.known.desk ≡ new_desk scripts limits poll_ms numbered → Legal history s
     → KeepsScripts scripts history s

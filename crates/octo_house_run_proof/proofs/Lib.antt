@@ -7,7 +7,6 @@ pub mod Noted
 pub mod Quiet
 pub mod Rising
 pub mod Showing
-pub mod Still
 pub mod Taking
 pub mod Timing
 pub mod Turned

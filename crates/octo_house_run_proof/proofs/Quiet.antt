@@ -27,7 +27,7 @@ use Rattle.octo_house_rules.specs.Legal.{Standing, IsLegal, after_entry}
 use Rattle.octo_house_rules.specs.Noted.{known_after_note, known_after_calls, last_call, forgets, with_temps, kept_unless}
 use Rattle.octo_house_rules.specs.Stands.{StandsAt}
 use Rattle.octo_house_run_proof.proofs.Rising.{Risen}
-use Rattle.octo_house_run_proof.proofs.Still.{quiet_keeps}
+use Rattle.job_desk.proofs.Quiet.{quiet_keeps}
 use Rattle.octo_house_run_proof.proofs.Turned.{TookTurn, note_legal, note_leads}
 
 -- what a turn of a session at a moment, which made no note, says of the session before and after

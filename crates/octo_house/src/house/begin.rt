@@ -38,9 +38,10 @@ impl House {
         shelf: &mut S,
     ) -> Result<House, BeginFault>
         requires new_desk { session.desk
-            ≡ new_desk session.desk.scripts session.desk.limits session.desk.poll_ms }
+            ≡ new_desk session.desk.scripts session.desk.limits session.desk.poll_ms
+            session.desk.numbered }
         requires new_sender { session.sender
-            ≡ new_sender session.sender.window session.sender.limit }
+            ≡ new_sender session.sender.window session.sender.numbered session.sender.limit }
         requires down { session.up ≡ false }
 
         // The state that it begins with.
