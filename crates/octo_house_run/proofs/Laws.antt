@@ -30,8 +30,8 @@ module _ (past past' : Option History) (files files' : Option (List ShelfFile)) 
         record {
           contents = led.contents;
           calls = keeps_over led.contents walked.added start led.legal;
-          prints = λ begun. new_host_keeps_prints d.scripts d.limits d.poll_ms led.contents walked.added start begun.new begun.numbered led.legal;
-          cool = λ begun cool. every_cool_line_over d.scripts d.limits d.poll_ms led.contents walked.added start begun.new cool led.legal;
+          prints = λ begun. new_host_keeps_prints d.scripts d.limits d.poll_ms d.numbered led.contents walked.added start begun.new begun.numbered led.legal;
+          cool = λ begun cool. every_cool_line_over d.scripts d.limits d.poll_ms d.numbered led.contents walked.added start begun.new cool led.legal;
         },
       )
 
@@ -44,7 +44,7 @@ module _ (past past' : Option History) (files files' : Option (List ShelfFile)) 
         walked.added,
         walked.past_is,
         walked.grows,
-        new_host_keeps d.scripts d.limits d.poll_ms walked.added (start_of old held) begun.new begun.numbered (walked.legal (start_of old held) refl),
+        new_host_keeps d.scripts d.limits d.poll_ms d.numbered walked.added (start_of old held) begun.new begun.numbered (walked.legal (start_of old held) refl),
       )
 
   pub run_laws : HasRun past past' files files' old new → HasRunOver past past' old new → RunKeepsLaws past past' files old

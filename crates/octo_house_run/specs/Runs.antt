@@ -69,4 +69,4 @@ abbrev pub RunKeepsPrints : LinkKind → (past past' : Option History) → Optio
     → House → Type 0
 RunKeepsPrints kind past past' files link link' house =
     IsBeginning (known_of house) → (held : List ShelfFile) → files ≡ Some held → (s : Standing) → begins house held s
-    → WhileRecorded past past' link link' (λ front added events. KeepsPrints kind front s added events)
+    → WhileRecorded past past' link link' (λ front added events. KeepsPrints (session_of house).sender.numbered kind front s added events)

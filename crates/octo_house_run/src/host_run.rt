@@ -51,7 +51,8 @@ pub fn run<R: Wait, C: Counter, L: Link, T: Clock, K: Keeper, S: Shelf>(
 ) -> u64
     requires fresh { IsFresh (session_of house.old) }
     requires down { L.up link.old ≡ false }
-    requires suits { SuitsAs false (L.past link.old) (L.kind link.old).oks }
+    requires suits { SuitsAs (session_of house.old).sender.numbered
+        (L.past link.old) (L.kind link.old).oks }
     requires answered { C.given counter.old ≡ None }
     requires open { C.closed counter.old ≡ false }
 
@@ -81,8 +82,8 @@ pub fn run<R: Wait, C: Counter, L: Link, T: Clock, K: Keeper, S: Shelf>(
         (λ _ added. NotesTemps (L.kind link.old) (L.past link.old) (L.past link.new) added) }
 
     // What was issued in each session is tied to what the printer executed in it, after every entry.
-    ensures tied { TiesLines (L.kind link.old) (C.past counter.old) (C.past counter.new)
-        (L.past link.old) (L.past link.new) }
+    ensures tied { TiesLines (session_of house.old).sender.numbered (L.kind link.old)
+        (C.past counter.old) (C.past counter.new) (L.past link.old) (L.past link.new) }
 
     // What the printer made of each print, and what is said and sent of it.
     ensures prints { RunKeepsPrints (L.kind link.old) (C.past counter.old) (C.past counter.new)

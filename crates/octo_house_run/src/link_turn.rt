@@ -1,5 +1,5 @@
 //! Turns of a host's link, entered in the history.
-ghost use Rattle.std.specs.Prelude.{◌≡◌, ◌≤◌, List, Option, Some, None, is_some, true, false};
+ghost use Rattle.std.specs.Prelude.{◌≡◌, ◌≤◌, Bool, List, Option, Some, None, is_some, true, false};
 ghost use Rattle.octo_keeper.specs.declared.shelf.ShelfFile.{ShelfFile};
 ghost use Rattle.octo_outside.specs.Recorded.{Became};
 ghost use Rattle.octo_house_run_proof.specs.Rounds.{TurnsAt};
@@ -46,10 +46,10 @@ pub(crate) fn take_turn<C: Counter, L: Link, K: Keeper>(
         (λ _ added. NotesTemps (L.kind link.old) (L.past link.old) (L.past link.new) added) }
 
     // Beside the link's history.
-    ensures tied { (before : Option History) (front : Option (List WorldEvent))
-        → InStep (L.kind link.old) before (C.past counter.old) front (L.past link.old)
+    ensures tied { (numbered : Bool) (before : Option History) (front : Option (List WorldEvent))
+        → InStep numbered (L.kind link.old) before (C.past counter.old) front (L.past link.old)
         (session_of house.old)
-        → InStep (L.kind link.old) before (C.past counter.new) front (L.past link.new)
+        → InStep numbered (L.kind link.old) before (C.past counter.new) front (L.past link.new)
         (session_of house.new) }
 
     // What stays, and what the keeper has of it.

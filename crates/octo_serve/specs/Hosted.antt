@@ -48,7 +48,7 @@ pub record Ran (old new : Setting) (past past' : Option History) (calls : ℕ) :
   pub moments : ArePassed old.moment new.moment past past'
   pub link_use : Shows past past' old.shelf.files (begins old.house) (UsesLink old.link.kind.listed old.link.calls new.link.calls)
   pub temps : Became past past' (λ _ added. NotesTemps old.link.kind old.link.past new.link.past added)
-  pub tied : TiesLines old.link.kind past past' old.link.past new.link.past
+  pub tied : TiesLines (session_of old.house).sender.numbered old.link.kind past past' old.link.past new.link.past
   -- what became of the prints
   pub prints : RunKeepsPrints old.link.kind past past' old.shelf.files old.link.past new.link.past old.house
   -- the link is down, of the same kind, and its history is recorded exactly if it was

@@ -51,7 +51,8 @@ fn run_house<R: Wait, L: Link, T: Clock, K: Keeper, S: Shelf, G: Sink + Drop>(
 ) -> u64
     requires fresh { IsFresh (session_of house.old) }
     requires down { L.up link.old ≡ false }
-    requires suits { SuitsAs false (L.past link.old) (L.kind link.old).oks }
+    requires suits { SuitsAs (session_of house.old).sender.numbered
+        (L.past link.old) (L.kind link.old).oks }
     requires answered { counter.old.counter.end.view.taken ≡ None }
     requires open { counter.old.counter.end.view.closed ≡ false }
 
@@ -103,7 +104,8 @@ pub fn serve<
 ) -> Result<Served, AllocError>
     requires fresh { IsFresh (session_of house.old) }
     requires down { L.up link.old ≡ false }
-    requires suits { SuitsAs false (L.past link.old) (L.kind link.old).oks }
+    requires suits { SuitsAs (session_of house.old).sender.numbered
+        (L.past link.old) (L.kind link.old).oks }
 
     ensures ok { let at = setting (link_state L.kind L.past L.calls L.up L.faults) T.moment
         (keeper_state K.tables K.faults) (shelf_state S.files S.faults) in
@@ -139,7 +141,8 @@ pub fn serve<
         terms,
         &mut || -> u64
             requires { IsFresh (session_of house.now) × (L.up link.now ≡ false)
-                × SuitsAs false (L.past link.now) (L.kind link.now).oks
+                × SuitsAs (session_of house.now).sender.numbered
+                (L.past link.now) (L.kind link.now).oks
                 × (counter.counter.end.view.taken ≡ None)
                 × (counter.counter.end.view.closed ≡ false) }
             ensures ran { let at = setting (link_state L.kind L.past L.calls L.up L.faults) T.moment

@@ -34,9 +34,9 @@ host_laws s between new first last calls held known sound made hosted files file
     subst (λ (h : History). Legal h at) all
     (subst (λ (y : SessionData). Legal walked.added (beginning y.sender.window y.sender.limit (known_of first) files)) made.session_is
     (walked.legal (beginning x.sender.window x.sender.limit (known_of first) files) refl)) in
-    let desk : at.known.desk ≡ new_desk s.scripts s.limits s.poll_ms = ap (λ (y : SessionData). y.desk) made.session_is in
+    let desk : at.known.desk ≡ new_desk s.scripts s.limits s.poll_ms s.numbered_oks = ap (λ (y : SessionData). y.desk) made.session_is in
     record {
-      laws = new_host_keeps s.scripts s.limits s.poll_ms known.history at desk made.numbered legal;
+      laws = new_host_keeps s.scripts s.limits s.poll_ms s.numbered_oks known.history at desk made.numbered legal;
       cool = every_line_of_settings s known.history at sound desk legal;
     }
 
@@ -54,10 +54,10 @@ host_laws_over s between new first last calls held known sound made hosted =
     let legal : LegalOver led.contents known.history at =
     subst (λ (h : History). LegalOver led.contents h at) all
     (subst (λ (y : SessionData). LegalOver led.contents walked.added (beginning y.sender.window y.sender.limit (known_of first) [])) made.session_is led.legal) in
-    let desk : at.known.desk ≡ new_desk s.scripts s.limits s.poll_ms = ap (λ (y : SessionData). y.desk) made.session_is in
+    let desk : at.known.desk ≡ new_desk s.scripts s.limits s.poll_ms s.numbered_oks = ap (λ (y : SessionData). y.desk) made.session_is in
     record {
       contents = led.contents;
       laws = keeps_over led.contents known.history at legal;
-      prints = new_host_keeps_prints s.scripts s.limits s.poll_ms led.contents known.history at desk made.numbered legal;
+      prints = new_host_keeps_prints s.scripts s.limits s.poll_ms s.numbered_oks led.contents known.history at desk made.numbered legal;
       cool = every_line_over s led.contents known.history at sound desk legal;
     }

@@ -30,7 +30,7 @@ host_prints s between new first last calls held known made hosted files files_ar
     let all : got.added ≡ known.history = sym (got.grew ∙ ap (λ (h : History). h ++ got.added) none) in (
       got.old_events,
       got.was_link,
-      subst (λ (h : History). KeepsPrints between.link.kind got.old_events (beginning s.window s.limit_ms (known_of first) files) h events) all
-          (subst (λ (y : SessionData). KeepsPrints between.link.kind got.old_events (beginning y.sender.window y.sender.limit (known_of first) files) got.added events)
+      subst (λ (h : History). KeepsPrints s.numbered_oks between.link.kind got.old_events (beginning s.window s.limit_ms (known_of first) files) h events) all
+          (subst (λ (y : SessionData). KeepsPrints y.sender.numbered between.link.kind got.old_events (beginning y.sender.window y.sender.limit (known_of first) files) got.added events)
           made.session_is got.so),
     )

@@ -1,5 +1,5 @@
 -- What a host is made of, by its settings.
-use Rattle.std.specs.Prelude.{ℕ, false}
+use Rattle.std.specs.Prelude.{false}
 use Rattle.job_desk.specs.Data.{ScriptTexts, new_desk}
 use Rattle.octo_access.specs.declared.policy.Policy.{Policy}
 use Rattle.octo_api_worker.specs.declared.terms.Terms.{Terms}
@@ -12,10 +12,10 @@ use Rattle.octo_serve_command.specs.declared.beginning.Pace.{Pace}
 -- a session at which nothing was done yet
 abbrev pub new_session : ScriptTexts → Limits → Pace → SessionData
 new_session scripts limits pace =
-    record { desk = new_desk scripts limits pace.poll_ms; sender = new_sender pace.window pace.limit_ms; up = false }
+    record { desk = new_desk scripts limits pace.poll_ms pace.numbered; sender = new_sender pace.window pace.numbered pace.limit_ms; up = false }
 
 abbrev pub pace_of : Settings → Pace
-pace_of s = record { window = s.window; limit_ms = s.limit_ms; poll_ms = s.poll_ms }
+pace_of s = record { window = s.window; limit_ms = s.limit_ms; poll_ms = s.poll_ms; numbered = s.numbered_oks }
 
 -- the session with the scripts, limits and times of the settings
 abbrev pub session_by : Settings → SessionData

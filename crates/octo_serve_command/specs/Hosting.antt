@@ -84,7 +84,7 @@ abbrev pub HasPrints : Settings → Around → Around → House → History → 
 HasPrints s old new first history =
     (files : List ShelfFile) → old.shelf.files ≡ Some files → (events : List WorldEvent) → new.link.past ≡ Some events
     → (front : List WorldEvent) × (old.link.past ≡ Some front)
-    × KeepsPrints old.link.kind front (beginning s.window s.limit_ms (known_of first) files) history events
+    × KeepsPrints s.numbered_oks old.link.kind front (beginning s.window s.limit_ms (known_of first) files) history events
 
 -- the laws hold of all that was asked, answered and noted at a host that began as this one, if the shelf's files are recorded; no
 -- issued line was too hot

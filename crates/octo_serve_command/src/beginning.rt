@@ -24,12 +24,13 @@ use send_window::Sender;
 use std::alloc::{AllocError, Global};
 use temp_rules::Limits;
 
-// How a session sends and polls: the lines in flight, and two times in milliseconds.
+// How a session sends and polls: the lines in flight, two times in milliseconds, and whether `ok`s count by their numbers.
 #[derive(Clone, Copy, Debug, PartialEq, Eq)]
 pub(crate) struct Pace {
     pub window: u8,
     pub limit_ms: u64,
     pub poll_ms: u64,
+    pub numbered: bool,
 }
 
 // A new session with these scripts and limits.
@@ -46,8 +47,8 @@ fn new_session(
     ensures new { IfOk result (λ s. s ≡ new_session scripts limits pace) }
     ensures sound { IfOk result (λ s. IsSound s.sender) }
 {
-    let desk = Desk::new(alloc, scripts, limits, pace.poll_ms)?;
-    let sender = Sender::new(alloc, pace.window, pace.limit_ms)?;
+    let desk = Desk::new(alloc, scripts, limits, pace.poll_ms, pace.numbered)?;
+    let sender = Sender::new(alloc, pace.window, pace.numbered, pace.limit_ms)?;
     Ok(Session::new(desk, sender))
 }
 
@@ -98,6 +99,7 @@ pub(crate) fn begin_by<K: Keeper, S: Shelf>(
         boot_ms: _,
         material,
         connect: _,
+        numbered_oks,
         limits,
         admin,
         patience,
@@ -109,6 +111,7 @@ pub(crate) fn begin_by<K: Keeper, S: Shelf>(
         window,
         limit_ms,
         poll_ms,
+        numbered: numbered_oks,
     };
     let Ok(session) = new_session(alloc, scripts, limits, pace) else {
         return Err(BeginFault::NoMemory);

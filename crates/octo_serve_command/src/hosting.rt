@@ -1,5 +1,5 @@
 //! The command `serve`: settings read, a host begun, and its doors served.
-ghost use Rattle.std.specs.Prelude.{◌≡◌, None, Some, is_some, false, true};
+ghost use Rattle.std.specs.Prelude.{◌≡◌, None, Some, Ok, is_some, false, true};
 ghost use Rattle.octo_files.specs.Settings.{HaveSettings, is_settings_refusal};
 ghost use Rattle.octo_house.specs.declared.faults.BeginFault.TheVariants as fault;
 ghost use Rattle.octo_outside.specs.Recorded.{Counts};
@@ -7,6 +7,7 @@ ghost use Rattle.octo_files.specs.declared.report.Report.{Report};
 ghost use Rattle.octo_files.specs.declared.report.Report.TheVariants as report;
 ghost use Rattle.octo_serve.specs.Around.{link_state, keeper_state, shelf_state, door_state};
 ghost use Rattle.octo_settings.specs.Sound.{IsSettings};
+ghost use Rattle.octo_settings.specs.declared.settings.Settings.{Settings};
 ghost use Rattle.octo_serve_command.specs.Hosting.{around, ServesBy, Hosts, HasHostCauses};
 ghost use Rattle.octo_serve_command.specs.Reports.{begin_fault_report, served_report};
 ghost use Rattle.octo_serve_command.specs.declared.report.HostReport.TheVariants as host;
@@ -107,7 +108,7 @@ fn serve_by<
 ) -> HostEnd
     requires sound { IsSettings settings }
     requires down { L.up link.old ≡ false }
-    requires suits { SuitsAs false (L.past link.old) (L.kind link.old).oks }
+    requires suits { SuitsAs settings.numbered_oks (L.past link.old) (L.kind link.old).oks }
 
     ensures serves { let at = around (link_state L.kind L.past L.calls L.up L.faults) T.moment
         (keeper_state K.tables K.faults) (shelf_state S.files S.faults)
@@ -168,7 +169,8 @@ pub fn host<
     log: G,
 ) -> HostEnd
     requires down { L.up link.old ≡ false }
-    requires suits { SuitsAs false (L.past link.old) (L.kind link.old).oks }
+    requires suits { (s : Settings) → HaveSettings (F.files files.old) (Some settings.now) (Ok s)
+        → SuitsAs s.numbered_oks (L.past link.old) (L.kind link.old).oks }
 
     // What it comes to, and each failure by its cause.
     ensures hosts { let at = around (link_state L.kind L.past L.calls L.up L.faults) T.moment

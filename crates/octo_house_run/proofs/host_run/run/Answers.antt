@@ -58,6 +58,7 @@ loop-preserved g c =
     let before = g.C.Counter.past c.loop.counter in
     let mid = g.C.Counter.past c.answer_next-asked.new.counter in
     let after = g.C.Counter.past c.take_turn-heard.new.counter in
+    let numbered = (session_of c.args.house.now).sender.numbered in
     let held = g.S.Shelf.files c.answer_next-asked.new.shelf in
     let moment = c.max-moment.result in
     let Counted : Tally → Type 0 = λ u. Became first after (λ _ added. tally_of added ≡ u) in
@@ -90,9 +91,9 @@ loop-preserved g c =
       link = omega (arith, i.link, t.link);
       keeper = omega (arith, i.keeper, a.rest.keeper, t.keeper);
       shelf = omega (arith, i.shelf, a.rest.shelf);
-      steps = round_ties (g.L.Link.kind c.args.link.now) (g.L.Link.kind c.loop.link) i.kind first before mid after (g.L.Link.past c.args.link.now) (g.L.Link.past c.loop.link)
-          (g.L.Link.past c.take_turn-heard.new.link) (session_of c.loop.house) (session_of c.answer_next-asked.new.house) (session_of c.take_turn-heard.new.house)
-          moment _ _ _ _ i.steps a.asks a.rest.apart.sender a.rest.apart.up t.tied;
+      steps = round_ties numbered (g.L.Link.kind c.args.link.now) (g.L.Link.kind c.loop.link) i.kind first before mid after (g.L.Link.past c.args.link.now)
+          (g.L.Link.past c.loop.link) (g.L.Link.past c.take_turn-heard.new.link) (session_of c.loop.house) (session_of c.answer_next-asked.new.house)
+          (session_of c.take_turn-heard.new.house) moment _ _ _ _ i.steps a.asks a.rest.apart.sender a.rest.apart.up (t.tied numbered);
       own = λ workers. waits_none c.args.connects c.answer_next-asked.new.reconnect moment first mid after
           (waits_look c.args.connects c.loop.reconnect c.answer_next-asked.new.reconnect c.loop.moment moment (omega (arith, c.max-moment.ensures)) first before mid
           (i.own workers) (a.own workers)) (turns_own moment _ _ _ _ _ _ mid after t.turns);
@@ -250,17 +251,18 @@ returns-then-is_over-clause-tied g c =
     let i = c.loop.invariant in
     let a = c.answer_next-asked.ensures in
     let t = c.take_turn-heard.ensures in
+    let numbered = (session_of c.args.house.now).sender.numbered in
     let kind = g.L.Link.kind c.args.link.now in
     let first = g.C.Counter.past c.args.counter.now in
     let after = g.C.Counter.past c.take_turn-heard.new.counter in
     let front = g.L.Link.past c.args.link.now in
     let link = g.L.Link.past c.take_turn-heard.new.link in
     let x = session_of c.take_turn-heard.new.house in
-    hung_ties kind (g.L.Link.kind c.take_turn-heard.new.link) (t.kind ∙ i.kind) first after (g.C.Counter.past c.close.new.self) front link (g.L.Link.past c.hang_up.new.self)
+    hung_ties numbered kind (g.L.Link.kind c.take_turn-heard.new.link) (t.kind ∙ i.kind) first after (g.C.Counter.past c.close.new.self) front link (g.L.Link.past c.hang_up.new.self)
     x (g.L.Link.up c.take_turn-heard.new.link) t.up c.hang_up.ensures.past c.close.ensures.past
-    (round_ties kind (g.L.Link.kind c.loop.link) i.kind first (g.C.Counter.past c.loop.counter) (g.C.Counter.past c.answer_next-asked.new.counter) after front
+    (round_ties numbered kind (g.L.Link.kind c.loop.link) i.kind first (g.C.Counter.past c.loop.counter) (g.C.Counter.past c.answer_next-asked.new.counter) after front
     (g.L.Link.past c.loop.link) link (session_of c.loop.house) (session_of c.answer_next-asked.new.house) x c.max-moment.result _ _ _ _ i.steps a.asks a.rest.apart.sender a.rest.apart.up
-    t.tied)
+    (t.tied numbered))
 
 pub returns-then-is_over-clause-prints : goal.returns-then-is_over-clause-prints
 returns-then-is_over-clause-prints g c =

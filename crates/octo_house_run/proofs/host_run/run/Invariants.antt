@@ -40,7 +40,7 @@ invariant-loop g l = record {
   link : g.L.Link.faults l.initial.link ≤ g.L.Link.faults l.link;
   keeper : g.K.Keeper.faults l.initial.keeper ≤ g.K.Keeper.faults l.keeper;
   shelf : g.S.Shelf.faults l.initial.shelf ≤ g.S.Shelf.faults l.shelf;
-  steps : InStep (g.L.Link.kind l.initial.link) (g.C.Counter.past l.initial.counter) (g.C.Counter.past l.counter) (g.L.Link.past l.initial.link) (g.L.Link.past l.link)
+  steps : InStep (session_of l.initial.house).sender.numbered (g.L.Link.kind l.initial.link) (g.C.Counter.past l.initial.counter) (g.C.Counter.past l.counter) (g.L.Link.past l.initial.link) (g.L.Link.past l.link)
       (session_of l.house);
   own : AsksOfWorkers g.C.Counter.given → Became (g.C.Counter.past l.initial.counter) (g.C.Counter.past l.counter)
       (λ _ added. Waits l.initial.connects l.reconnect l.moment (own_moments added));

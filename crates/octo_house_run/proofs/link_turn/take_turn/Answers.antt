@@ -59,9 +59,9 @@ returns-clause-temps g c =
     (session_of c.turn-turned.new.self) c.turn-turned.result t.turn _ _ c.note_turn.ensures.notes
 
 pub returns-clause-tied : goal.returns-clause-tied
-returns-clause-tied g c before front =
+returns-clause-tied g c numbered before front =
     let t = c.turn-turned.ensures in
-    turn_ties c.args.moment (g.L.Link.kind c.args.link.now) (g.L.Link.past c.args.link.now) (g.L.Link.past c.turn-turned.new.link) (g.L.Link.calls c.args.link.now)
+    turn_ties c.args.moment numbered (g.L.Link.kind c.args.link.now) (g.L.Link.past c.args.link.now) (g.L.Link.past c.turn-turned.new.link) (g.L.Link.calls c.args.link.now)
     (g.L.Link.calls c.turn-turned.new.link) (session_of c.args.house.now) (session_of c.turn-turned.new.self) c.turn-turned.result t.turn
     (kept_by_note t.by_note) before (g.C.Counter.past c.args.counter.now)
     (g.C.Counter.past c.note_turn.new.counter) front _ _ t.by_note.none_acked c.note_turn.ensures.notes

@@ -17,3 +17,6 @@ returns-in-Err-clause-hosts g c =
       doors = refl;
       later = record { link = omega arith; keeper = omega arith; shelf = omega arith };
     })
+
+pub serve_by-requires-clause-suits : goal.serve_by-requires-clause-suits
+serve_by-requires-clause-suits g c κs lives = c.requires.suits c.in-Ok.settings c.in-Ok.ensures.exact
