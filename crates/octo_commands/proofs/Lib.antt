@@ -1,3 +1,4 @@
 mod Printed
 mod Recorded
 mod Refusals
+mod Suited

@@ -1,5 +1,5 @@
 -- What a print with enough turns reports.
-use Rattle.std.proofs.Common.{◌≡◌, refl, inl, inr, ℕ, List, Option, None, Some, Result, Ok, Err, sym, ◌∙◌, ap, subst}
+use Rattle.std.proofs.Common.{◌≡◌, refl, inl, inr, ℕ, false, List, Option, None, Some, Result, Ok, Err, sym, ◌∙◌, ap, subst}
 use Rattle.std.specs.Prelude.{IsUtf8}
 use Rattle.std.proofs.lemmas.Option.{same_Some}
 use Rattle.octo_outside.specs.Traits.{Files}
@@ -17,7 +17,7 @@ use Rattle.octo_files.specs.declared.report.Report.TheVariants as report
 use Rattle.octo_files.specs.Jobs.{job_in}
 use Rattle.octo_files.specs.Reading.{IsHeld, IsTrouble}
 use Rattle.octo_files.specs.Settings.{HaveSettings, settings_or}
-use Rattle.octo_commands_print.specs.Printing.{Seen, HaveJob, Reads, no_settings, no_job, both, Follows, IsRun, print_end_report, over_port}
+use Rattle.octo_commands_print.specs.Printing.{Seen, HaveJob, Reads, UseSettings, no_settings, no_job, both, Follows, IsRun, print_end_report, over_port}
 use Rattle.octo_commands.specs.Commands.{Comes, out_of_memory, no_command, carried_out, hosted, hosted_by, Reports, seen_in}
 use Rattle.hand_over.specs.Ends.{HistoryData}
 use Rattle.octo_serve_command.specs.Hosting.{Around}
@@ -35,6 +35,14 @@ AreEqual a b = a ≡ b
 same_ok : {A : Type 0} (x y : A) → AreEqual (Ok x) (Ok y) → x ≡ y
 unfolding ok_of
 same_ok x y is = ap (ok_of x) is
+
+err_of : {A : Type 0} → Result A Report → Report
+err_of (Ok x) = report.NoMemory
+err_of (Err r) = r
+
+same_err : {A : Type 0} (r s : Report) → AreEqual {A = A} (Err r) (Err s) → r ≡ s
+unfolding err_of
+same_err r s is = ap err_of is
 
 -- a file has one content
 same_bytes : (files : Option Files) (file bytes other : List ℕ) → Holds files file bytes → IsHeld files file other → other ≡ bytes
@@ -59,6 +67,17 @@ settings_same files (Some name) s t given (inr gives) =
     let same : gives.bytes ≡ given.bytes = same_bytes files name given.bytes gives.bytes given.held gives.held in
     same_ok t s (gives.given.text (subst IsUtf8 (sym same) given.text) ∙ ap settings_or (ap config same ∙ given.settings))
 
+-- so it is with those of a print that counts `ok`s
+used_trouble : (files : Option Files) (name : Option (List ℕ)) (s : Settings) (r : Report) → GiveSettings files name s →
+    UseSettings files name false (Err r) → IsTrouble r
+used_trouble files name s r given (inl (refusal, have, is)) =
+    subst IsTrouble (sym (same_err r refusal is)) (settings_trouble files name s refusal given have)
+used_trouble files name s r given (inr (t, have, is)) = absurd (cc)
+
+used_same : (files : Option Files) (name : Option (List ℕ)) (s t : Settings) → GiveSettings files name s → UseSettings files name false (Ok t) → t ≡ s
+used_same files name s t given (inl (refusal, have, is)) = absurd (cc)
+used_same files name s t given (inr (read, have, is)) = same_ok t read is ∙ settings_same files name s read given have
+
 -- so it is with the job of a file
 job_trouble : (files : Option Files) (file bytes : List ℕ) (limits : Limits) (job : JobData) (r : Report) → Holds files file bytes →
     job_in limits bytes ≡ Ok job → HaveJob files file limits (Err r) → IsTrouble r
@@ -80,7 +99,7 @@ module _ (words : List (List ℕ)) (kind : LinkKind) (files : Option Files) (h :
   troubled refusal (inr failed) is = absurd (sure (is ∙ failed))
 
   ran_done : (x : IsRun kind e.by e.job (over_port e.port e.turns) h r) → IsPrinted e.job r
-  ran_done x = inl (x.is ∙ ap (λ (how : PrintEnd). print_end_report how e.port e.job) (x.run.prompt e.smooth e.enough))
+  ran_done x = inl (x.is ∙ ap (λ (how : PrintEnd). print_end_report how e.port e.job) (x.run.prompt e.counts e.smooth e.enough))
 
   by_job : (s : Settings) (job : JobData) → s ≡ e.by → job ≡ e.job → Follows kind (over_port e.port e.turns) h r (Ok (s, job)) → IsPrinted e.job r
   by_job s job their its (inl none) = inr none.is
@@ -89,15 +108,15 @@ module _ (words : List (List ℕ)) (kind : LinkKind) (files : Option Files) (h :
       let J : JobData → Type 0 = λ j. IsRun kind e.by j (over_port e.port e.turns) h r in
       ran_done (subst J its (subst S their ran))
 
-  by_reads : (found : Result (Settings × JobData) Report) → Reads files e.settings e.file found → Follows kind (over_port e.port e.turns) h r found →
+  by_reads : (found : Result (Settings × JobData) Report) → Reads files e.settings false e.file found → Follows kind (over_port e.port e.turns) h r found →
       IsPrinted e.job r
-  by_reads found (no_settings refusal have) so = troubled refusal (settings_trouble files e.settings e.by refusal e.given have) so.is
-  by_reads found (no_job s refusal have none) so =
-      let their : s ≡ e.by = settings_same files e.settings e.by s e.given have in
+  by_reads found (no_settings refusal used) so = troubled refusal (used_trouble files e.settings e.by refusal e.given used) so.is
+  by_reads found (no_job s refusal used none) so =
+      let their : s ≡ e.by = used_same files e.settings e.by s e.given used in
       let L : Settings → Type 0 = λ t. HaveJob files e.file t.limits (Err refusal) in
       troubled refusal (job_trouble files e.file e.bytes e.by.limits e.job refusal e.held e.its_job (subst L their none)) so.is
-  by_reads found (both s job have its) so =
-      let their : s ≡ e.by = settings_same files e.settings e.by s e.given have in
+  by_reads found (both s job used its) so =
+      let their : s ≡ e.by = used_same files e.settings e.by s e.given used in
       let L : Settings → Type 0 = λ t. HaveJob files e.file t.limits (Ok job) in
       by_job s job their (job_same files e.file e.bytes e.by.limits e.job job e.held e.its_job (subst L their its)) so
 
@@ -105,7 +124,7 @@ module _ (words : List (List ℕ)) (kind : LinkKind) (files : Option Files) (h :
   reports_printed : (asked : Command) → command_of words ≡ Some asked → Reports kind files h asked r → IsPrinted e.job r
   reports_printed asked is reports =
       let R : Command → Type 0 = λ c. Reports kind files h c r in
-      let so = subst R (same_Some asked (command.Print e.port e.file e.turns e.settings) (sym is ∙ e.asked)) reports in
+      let so = subst R (same_Some asked (command.Print e.port e.file e.turns e.settings false) (sym is ∙ e.asked)) reports in
       by_reads so.found so.reads so.follows
 
 -- the report of a print that has enough turns
@@ -117,11 +136,11 @@ pub comes_printed : (words : List (List ℕ)) (files : Option Files) (old new : 
     (r ≡ host.Command report.SourceFailed → ⊥) → Comes words files old new r known → EndsPrinted e.job r
 comes_printed words files old new r known e sure (out_of_memory is unused none) = (report.NoMemory, is, inr refl)
 comes_printed words files old new r known e sure (no_command is none unused unknown) =
-    let no : None ≡ Some (command.Print e.port e.file e.turns e.settings) = sym none ∙ e.asked in
+    let no : None ≡ Some (command.Print e.port e.file e.turns e.settings false) = sym none ∙ e.asked in
     absurd (cc)
 comes_printed words files old new r known e sure (carried_out asked plain is r_is reports waited aside none) =
     (plain, r_is, reports_printed words old.link.kind files (seen_in old new) plain e (λ failed. sure (r_is ∙ ap (λ (p : Report). host.Command p) failed)) asked is reports)
 comes_printed words files old new r known e sure (hosted asked settings is by hosts) =
-    let same = same_Some asked (command.Print e.port e.file e.turns e.settings) (sym is ∙ e.asked) in
+    let same = same_Some asked (command.Print e.port e.file e.turns e.settings false) (sym is ∙ e.asked) in
     let no : None ≡ Some settings = sym (ap hosted_by same) ∙ by in
     absurd (cc)

@@ -1,5 +1,5 @@
 -- After a print the history of its link is recorded exactly if it was before.
-use Rattle.std.proofs.Common.{◌≡◌, inl, inr, ℕ, List, Option, Result, Ok, Err, is_some, ap}
+use Rattle.std.proofs.Common.{◌≡◌, inl, inr, ℕ, Bool, List, Option, Result, Ok, Err, is_some, ap}
 use Rattle.octo_outside.specs.Traits.{Files}
 use Rattle.gcode_lines.specs.Job.{JobData}
 use Rattle.printer_link.specs.Link.{LinkKind}
@@ -15,6 +15,6 @@ follows_recorded kind asked h r (Ok (s, job)) (inl none) = ap is_some none.unuse
 follows_recorded kind asked h r (Ok (s, job)) (inr ran) = ran.run.printed.stays
 
 -- of a print of a file
-pub print_recorded : (kind : LinkKind) (files : Option Files) (settings : Option (List ℕ)) (file : List ℕ) (asked : Asked) (h : Seen) (r : Report) →
-    IsFilePrint kind files settings file asked h r → is_some h.now ≡ is_some h.first
-print_recorded kind files settings file asked h r print = follows_recorded kind asked h r print.found print.follows
+pub print_recorded : (kind : LinkKind) (files : Option Files) (settings : Option (List ℕ)) (sure : Bool) (file : List ℕ) (asked : Asked) (h : Seen) (r : Report) →
+    IsFilePrint kind files settings sure file asked h r → is_some h.now ≡ is_some h.first
+print_recorded kind files settings sure file asked h r print = follows_recorded kind asked h r print.found print.follows

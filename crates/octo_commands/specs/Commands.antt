@@ -3,6 +3,9 @@ use Rattle.std.specs.Prelude.{◌≡◌, ◌≢◌, ◌⊎◌, ℕ, false, List,
 use Rattle.octo_outside.specs.Recorded.{Adds, AddsPrefix, Rose}
 use Rattle.octo_outside.specs.Traits.{Files}
 use Rattle.printer_link.specs.Link.{LinkKind, RoseBy}
+use Rattle.printer_link.specs.Suits.{Suits}
+use Rattle.printer_model.specs.declared.event.WorldEvent.{WorldEvent}
+use Rattle.printer_model.specs.declared.oks.Oks.{Oks}
 use Rattle.send_window.specs.declared.session_end.SessionEnd.TheVariants.{NoAnswer}
 use Rattle.octo_session_print.specs.declared.end.PrintEnd.{PrintEnd}
 use Rattle.octo_session_print.specs.declared.end.PrintEnd.TheVariants as end
@@ -21,7 +24,7 @@ use Rattle.octo_files.specs.Checks.{check_report}
 use Rattle.octo_files.specs.Measures.{measure_report, IsRestReport}
 use Rattle.octo_files.specs.Reading.{FileGives, IsTrouble}
 use Rattle.octo_files.specs.Settings.{HaveSettings}
-use Rattle.octo_commands_print.specs.Printing.{Seen, IsFilePrint, WaitedBySettings, over_port, seen_of, uses_link}
+use Rattle.octo_commands_print.specs.Printing.{Seen, IsFilePrint, UseSettings, WaitedBySettings, over_port, seen_of, uses_link}
 use Rattle.hand_over.specs.Ends.{HistoryData}
 use Rattle.octo_serve_command.specs.Hosting.{Around, Hosts, HasHostCauses}
 use Rattle.octo_serve_command.specs.Reports.{host_code, host_text}
@@ -58,19 +61,19 @@ pub record IsOther (r : Report) : Type 0 where
   pub output : code_of r ≢ 8
 
 -- the summary of a demo that was run
-pub record IsSummary (seed commands : ℕ) (r : Report) : Type 0 where
+pub record IsSummary (seed commands : ℕ) (lost : Option (List ℕ)) (r : Report) : Type 0 where
   pub demo : Demo
-  pub run : IsDemo seed commands demo
+  pub run : IsDemo seed commands lost demo
   pub code : code_of r ≡ status_of demo.end
   pub text : report_text r ≡ summary_of seed commands (counts_of demo.link) (status_of demo.end)
 
 -- what a command that doesn't serve reports; only a print adds to the history of the link
 abbrev pub Reports : LinkKind → Option Files → Seen → Command → Report → Type 0
-Reports kind files h (command.Print port file turns settings) r =
-    IsFilePrint kind files settings file (over_port port turns) h r
+Reports kind files h (command.Print port file turns settings sure) r =
+    IsFilePrint kind files settings sure file (over_port port turns) h r
 Reports kind files h (command.Check file settings) r = IsCheck files settings file r × (h.now ≡ h.first)
-Reports kind files h (command.Demo seed commands) r =
-    ((r ≡ report.NoMemory) ⊎ IsSummary seed commands r) × (h.now ≡ h.first)
+Reports kind files h (command.Demo seed commands lost) r =
+    ((r ≡ report.NoMemory) ⊎ IsSummary seed commands lost r) × (h.now ≡ h.first)
 Reports kind files h (command.Measure file) r =
     Given files file r (λ bytes. r ≡ measure_report bytes) × (h.now ≡ h.first)
 Reports kind files h (command.Rest file from) r =
@@ -79,14 +82,31 @@ Reports kind files h (command.Serve address folder database settings) r = ⊥
 
 -- a print that is reported with no answer waited five limits of its settings, by a clock that showed `began` before and `now` after
 abbrev pub HasWaitedFor : Option Files → Option ℕ → Option ℕ → Command → Report → Type 0
-HasWaitedFor files began now (command.Print port file turns settings) r =
-    (count : ℕ) → r ≡ report.Ended (NoAnswer count) → WaitedBySettings files settings count began now
+HasWaitedFor files began now (command.Print port file turns settings sure) r =
+    (count : ℕ) → r ≡ report.Ended (NoAnswer count) → WaitedBySettings files settings sure count began now
 HasWaitedFor files began now asked r = Unit {0}
 
 -- the file of settings of a command that serves
 abbrev pub hosted_by : Command → Option (List ℕ)
 hosted_by (command.Serve address folder database settings) = Some settings
 hosted_by asked = None
+
+-- the sessions that a command makes are made by these settings: those of a print, or of a host
+abbrev pub MakesBy : Option Files → Command → Settings → Type 0
+MakesBy files (command.Print port file turns settings sure) s = UseSettings files settings sure (Ok s)
+MakesBy files (command.Serve address folder database settings) s = HaveSettings files (Some settings) (Ok s)
+MakesBy files asked s = ⊥
+
+-- if the link records its history, those sessions suit it
+abbrev pub SessionsSuit : Option Files → Option (List WorldEvent) → Oks → Command → Type 0
+SessionsSuit files recorded oks asked =
+    (past : List WorldEvent) → recorded ≡ Some past → (s : Settings) → MakesBy files asked s → Suits s.numbered_oks oks
+
+-- the same of the command that arguments are
+abbrev pub AskedSuits : List (List ℕ) → Option Files → Option (List WorldEvent) → Oks → Type 0
+AskedSuits words files recorded oks =
+    (past : List WorldEvent) → recorded ≡ Some past → (asked : Command) → command_of words ≡ Some asked
+    → (s : Settings) → MakesBy files asked s → Suits s.numbered_oks oks
 
 -- what is seen of the link and the clock of a command
 abbrev pub seen_in : Around → Around → Seen

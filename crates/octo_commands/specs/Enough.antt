@@ -1,5 +1,5 @@
 -- A print over a prompt link that has enough turns.
-use Rattle.std.specs.Prelude.{◌≡◌, ◌⊎◌, ℕ, ◌+◌, ◌≤◌, List, length, Option, None, Some, Ok, IsUtf8}
+use Rattle.std.specs.Prelude.{◌≡◌, ◌⊎◌, ℕ, ◌+◌, ◌≤◌, false, List, length, Option, None, Some, Ok, IsUtf8}
 use Rattle.octo_outside.specs.Traits.{Files}
 use Rattle.gcode_lines.specs.Job.{JobData}
 use Rattle.printer_link.specs.Link.{LinkKind}
@@ -30,16 +30,17 @@ abbrev pub GiveSettings : Option Files → Option (List ℕ) → Settings → Ty
 GiveSettings files None s = s ≡ plain_settings
 GiveSettings files (Some name) s = IsSettingsFile files name s
 
--- the arguments ask for a print of a file within the limits of its settings, over a prompt link without a fault, in at
--- least 32 turns more than its plan has lines
+-- the arguments ask for a print of a file within the limits of its settings, whose sender counts `ok`s, over a prompt link without
+-- a fault, in at least 32 turns more than its plan has lines
 pub record HasEnough (words : List (List ℕ)) (kind : LinkKind) (files : Option Files) (h : Seen) : Type 0 where
   pub port : List ℕ
   pub file : List ℕ
   pub turns : ℕ
   pub settings : Option (List ℕ)
-  pub asked : command_of words ≡ Some (command.Print port file turns settings)
+  pub asked : command_of words ≡ Some (command.Print port file turns settings false)
   pub by : Settings
   pub given : GiveSettings files settings by
+  pub counts : by.numbered_oks ≡ false
   pub bytes : List ℕ
   pub held : Holds files file bytes
   pub job : JobData

@@ -10,9 +10,8 @@ ghost use Rattle.octo_serve.specs.Around.{link_state, keeper_state, shelf_state,
 ghost use Rattle.octo_serve_command.specs.Hosting.{around};
 ghost use Rattle.octo_serve_command.specs.Reports.{host_code};
 ghost use Rattle.octo_serve_command.specs.declared.report.HostReport.{HostReport};
-ghost use Rattle.octo_commands.specs.Commands.{Comes, HasCauses, HasPlainCauses, HasWaitedFor, IsCheck, IsWritten, Reports, hosted_by, words_fault_report};
+ghost use Rattle.octo_commands.specs.Commands.{Comes, HasCauses, HasPlainCauses, HasWaitedFor, IsCheck, IsWritten, Reports, SessionsSuit, AskedSuits, hosted_by, words_fault_report};
 ghost use Rattle.octo_commands.specs.Enough.{HasEnough};
-ghost use Rattle.printer_link.specs.Suits.{SuitsAs};
 
 use crate::demo::demo;
 use hand_over::History;
@@ -22,7 +21,7 @@ use octo_keeper::{Keeper, Shelf};
 use octo_outside::{Clock, Failed, Sink, Source, WordList};
 use octo_outside_doors::{Door, Doors};
 use octo_serve_command::{HostEnd, HostReport, host, write_host_report};
-use octo_words::{Command, FilePath, WordsFault, read_words};
+use octo_words::{Command, FilePath, ReplyList, WordsFault, read_words};
 use printer_link::Link;
 use std::alloc::Global;
 use std::sync::Wait;
@@ -43,6 +42,16 @@ fn name_of_settings(settings: &Option<FilePath>) -> Option<&str>
 {
     match settings {
         Some(path) => Some(path.as_str()),
+        None => None,
+    }
+}
+
+// The numbers of the replies that a demo loses, if they are listed.
+fn numbers_of(lost: &Option<ReplyList>) -> Option<&[u64]>
+    ensures { option_map (λ r. r.now) result ≡ lost.now }
+{
+    match lost {
+        Some(replies) => Some(replies.as_slice()),
         None => None,
     }
 }
@@ -84,7 +93,8 @@ fn carry_out<F: Source, L: Link, T: Clock>(
     clock: &mut T,
 ) -> Report
     requires down { L.up link.old ≡ false }
-    requires suits { SuitsAs false (L.past link.old) (L.kind link.old).oks }
+    requires suits { SessionsSuit (F.files files.old) (L.past link.old) (L.kind link.old).oks
+        command.now }
     requires range { IsInRange command.now }
     requires plain { hosted_by command.now ≡ None }
     ensures reports { Reports (L.kind link.old) (F.files files.old)
@@ -110,6 +120,7 @@ fn carry_out<F: Source, L: Link, T: Clock>(
             file,
             turns,
             settings,
+            sure,
         } => print_file(
             alloc,
             files,
@@ -119,9 +130,14 @@ fn carry_out<F: Source, L: Link, T: Clock>(
             file.as_str(),
             *turns,
             name_of_settings(settings),
+            *sure,
         ),
         Command::Check { file, settings } => check(alloc, files, file, settings),
-        Command::Demo { seed, commands } => demo(alloc, *seed, *commands),
+        Command::Demo {
+            seed,
+            commands,
+            lost,
+        } => demo(alloc, *seed, *commands, numbers_of(lost)),
         Command::Measure { file } => measure_file(alloc, files, file.as_str()),
         Command::Rest { file, command } => {
             rest_of_file(alloc, files, file.as_str(), *command as usize)
@@ -163,7 +179,8 @@ fn run<
     log: G,
 ) -> HostEnd
     requires down { L.up link.old ≡ false }
-    requires suits { SuitsAs false (L.past link.old) (L.kind link.old).oks }
+    requires suits { AskedSuits words.now (F.files files.old) (L.past link.old)
+        (L.kind link.old).oks }
     ensures comes { let at = around (link_state L.kind L.past L.calls L.up L.faults) T.moment
         (keeper_state K.tables K.faults) (shelf_state S.files S.faults)
         (door_state D.coming D.served D.faults) in
@@ -199,9 +216,12 @@ fn run<
     }
 }
 
-/// Carries out the command that the arguments are, without the program's name, and writes its report to `out`: `print`,
+/// Carries out the command that the arguments are, without the program's name, and writes its report to `out`: `print`, `sure`,
 /// `check`, `demo`, `measure`, `rest` or `serve`, as `octo_words` reads them. The status is the report's, or 8 if the output
 /// failed.
+///
+/// A link that records its history has to suit the settings of a command that prints or serves: it loses no reply, or the printer's
+/// `ok`s have numbers and the settings, or `sure`, say so.
 ///
 /// Only `serve` uses the keeper, the shelf, the doors and the log, which gets the lines of the host's history. The caller has made
 /// them of the database, the folder and the address that the arguments name. `serve` waits for connections, and may never end; every
@@ -230,7 +250,8 @@ pub fn octo<
     log: G,
 ) -> Status
     requires down { L.up link.old ≡ false }
-    requires suits { SuitsAs false (L.past link.old) (L.kind link.old).oks }
+    requires suits { AskedSuits words.now (F.files files.old) (L.past link.old)
+        (L.kind link.old).oks }
 
     // The arguments come to a report `r`, and each failure in it has its cause. It is written, or the output failed. `at` is what
     // link, clock, keeper, shelf and doors show.
@@ -245,7 +266,7 @@ pub fn octo<
         (at link.new clock.new keeper.new shelf.new doors.new) r
         × IsWritten r result.code (O.written out.old) (O.written out.new) }
 
-    // Over a prompt link a print with 32 turns more than its plan has lines is done, or memory runs out.
+    // Over a prompt link a print that counts `ok`s, with 32 turns more than its plan has lines, is done, or memory runs out.
     ensures prompt { HasEnough words.now (L.kind link.old) (F.files files.old)
         (seen_of (L.past link.old) (L.past link.new)
         (L.faults link.old) (L.faults link.new) (T.moment clock.new))

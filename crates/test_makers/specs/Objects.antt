@@ -13,19 +13,19 @@ use Rattle.printer_link.specs.declared.schedule.Fate.{Fate}
 
 -- a desk without scripts, for a printer that takes 250 and 100 degrees
 abbrev pub plain_desk : Data
-plain_desk = new_desk no_scripts (record { tool = 250; bed = 100 }) 5000
+plain_desk = new_desk no_scripts (record { tool = 250; bed = 100 }) 5000 false
 
 -- a session of such a desk that hasn't begun, with a window of four lines and this time limit
 abbrev pub plain_session : ℕ → SessionData
-plain_session limit = record { desk = plain_desk; sender = new_sender 4 limit; up = false }
+plain_session limit = record { desk = plain_desk; sender = new_sender 4 false limit; up = false }
 
--- a link to a printer with four buffer slots, which lists one port
+-- a link to a printer with four buffer slots whose `ok`s have numbers, which lists one port
 abbrev pub link_at : List ℕ → List Fate → MemoryLinkData
 link_at port fates = new_link (record {
   names = port ∷ [];
   last = 0;
   slots = 4;
-  numbered = false;
+  numbered = true;
   fates = fates;
   slow = 0;
   fail_at = [];

@@ -1,5 +1,5 @@
 //! A host with all that it serves with but its doors.
-ghost use Rattle.std.specs.Prelude.{◌≡◌, false};
+ghost use Rattle.std.specs.Prelude.{◌≡◌, true, false};
 ghost use Rattle.octo_house.specs.State.{session_of};
 ghost use Rattle.octo_house_run.specs.Runs.{IsFresh};
 
@@ -47,6 +47,7 @@ impl Bench {
     pub(super) fn new(rt: &impl Abort, alloc: Global, lost: u32) -> Bench
         ensures fresh { IsFresh (session_of result.house) }
         ensures plain { result.link.story.oks.lost ≡ false }
+        ensures numbered { result.link.story.oks.numbered ≡ true }
     {
         let link = link_at(alloc, "p", fates(rt, alloc, lost)).expect(rt, "no memory");
         let mut keeper = keeper_of(alloc, no_rows(alloc), &[]).expect(rt, "no memory");
@@ -82,6 +83,7 @@ impl Bench {
     >(&mut self, rt: &R, doors: &mut Doors<D>) -> (u64, bool)
         requires fresh { IsFresh (session_of self.old.house) }
         requires plain { self.old.link.story.oks.lost ≡ false }
+        requires numbered { self.old.link.story.oks.numbered ≡ true }
     {
         assert!(rt; !self.link.is_up());
         let mut clock = RealRests::new(rt);

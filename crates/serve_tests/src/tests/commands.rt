@@ -1,5 +1,5 @@
 //! Whole commands over files, a link, doors and an output in memory. Out of memory, a test stops.
-ghost use Rattle.std.specs.Prelude.{◌≡◌, false, IfSome};
+ghost use Rattle.std.specs.Prelude.{◌≡◌, false, true, IfSome};
 ghost use Rattle.printer_link.specs.Memory.{link_world};
 
 mod rows;
@@ -15,16 +15,18 @@ use std::sync::Wait;
 use std::thread::Threads;
 use test_makers::{calls, door_of, keeper_of, no_rows, ports, shelf_of};
 
-// A printer at port p with 4 buffer slots and the last number 4.
+// A printer at port p with 4 buffer slots and the last number 4. Its `ok`s have numbers and none is lost, which suits a host that
+// counts them as well as one that reads their numbers.
 fn link(alloc: Global, row: &Row) -> Option<MemoryLink>
     ensures down { IfSome result (λ link. (link_world link).linked ≡ false) }
     ensures plain { IfSome result (λ link. link.story.oks.lost ≡ false) }
+    ensures numbered { IfSome result (λ link. link.story.oks.numbered ≡ true) }
 {
     let schedule = Schedule {
         names: ports(alloc, "p")?,
         last: 4,
         slots: 4,
-        numbered: false,
+        numbered: true,
         fates: FateList::from_items(Vec::from_slice(alloc, row.fates).ok()?),
         slow: 0,
         fail_at: calls(alloc, row.link_fails)?,
@@ -94,6 +96,7 @@ impl Bench {
     fn of(rt: &impl Abort, alloc: Global, row: &Row) -> Bench
         ensures down { (link_world result.link).linked ≡ false }
         ensures plain { result.link.story.oks.lost ≡ false }
+        ensures numbered { result.link.story.oks.numbered ≡ true }
     {
         Bench {
             files: files(rt, alloc, row),
@@ -112,6 +115,7 @@ impl Bench {
     ) -> Status
         requires down { (link_world self.old.link).linked ≡ false }
         requires plain { self.old.link.story.oks.lost ≡ false }
+        requires numbered { self.old.link.story.oks.numbered ≡ true }
     {
         octo(
             rt,
@@ -209,6 +213,7 @@ fn code_on<R: Threads + Wait + Clone + Send + Sync + Drop + Abort>(
 ) -> u8
     requires down { (link_world bench.old.link).linked ≡ false }
     requires plain { bench.old.link.story.oks.lost ≡ false }
+    requires numbered { bench.old.link.story.oks.numbered ≡ true }
 {
     let words = word_list(rt, alloc, row.words);
     code_of(bench.carry_out(rt, alloc, &words))

@@ -1,5 +1,5 @@
 //! Whole hosts, by their settings, and keepers that were opened. Out of memory, a test stops.
-ghost use Rattle.std.specs.Prelude.{◌≡◌, false};
+ghost use Rattle.std.specs.Prelude.{◌≡◌, false, true};
 ghost use Rattle.printer_link.specs.Memory.{link_world};
 
 use octo_keeper::{Keeper, KeeperFault, MemoryKeeper, MemoryShelf};
@@ -81,6 +81,7 @@ impl HostBench {
     fn of(rt: &impl Abort, alloc: Global, row: &Row) -> HostBench
         ensures down { (link_world result.link).linked ≡ false }
         ensures plain { result.link.story.oks.lost ≡ false }
+        ensures numbered { result.link.story.oks.numbered ≡ true }
     {
         HostBench {
             files: files(rt, alloc, row),
@@ -104,6 +105,7 @@ impl HostBench {
     ) -> HostEnd
         requires down { (link_world self.old.link).linked ≡ false }
         requires plain { self.old.link.story.oks.lost ≡ false }
+        requires numbered { self.old.link.story.oks.numbered ≡ true }
     {
         host(
             rt,

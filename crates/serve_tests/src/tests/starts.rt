@@ -1,5 +1,5 @@
 //! Two workers ask at once to start a print.
-ghost use Rattle.std.specs.Prelude.{◌≡◌, false};
+ghost use Rattle.std.specs.Prelude.{◌≡◌, true, false};
 ghost use Rattle.octo_house.specs.State.{session_of};
 ghost use Rattle.octo_house_run.specs.Runs.{IsFresh};
 
@@ -36,6 +36,7 @@ fn put_file(rt: &impl Abort, alloc: Global) -> Request {
 fn connecting(rt: &impl Abort, alloc: Global) -> Bench
     ensures fresh { IsFresh (session_of result.house) }
     ensures plain { result.link.story.oks.lost ≡ false }
+    ensures numbered { result.link.story.oks.numbered ≡ true }
 {
     let mut bench = Bench::new(rt, alloc, 100);
     bench.ask(rt, put_file(rt, alloc));

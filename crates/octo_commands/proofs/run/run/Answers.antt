@@ -4,6 +4,7 @@ use Rattle.octo_files.specs.declared.report.Report.TheVariants as report
 use Rattle.octo_serve.specs.Around.{link_state}
 use Rattle.octo_commands.specs.Commands.{carried_out, hosted}
 use Rattle.octo_commands.proofs.Refusals.{other_host}
+use Rattle.octo_commands.proofs.Suited.{host_suits}
 use Rattle.octo_commands.proofs.run.run.Goals as goal
 
 pub returns-in-Some-clause-comes : goal.returns-in-Some-clause-comes
@@ -35,3 +36,10 @@ returns-in-None-clause-comes g c =
       );
     })
     (ap (λ (h : HostEnd). h.history) c.unserved.ensures)
+
+pub host-requires-clause-suits : goal.host-requires-clause-suits
+host-requires-clause-suits g c κs lives =
+    host_suits _ _ _ c.in-Ok.command c.in-Some.settings.now (sym c.in-Some.ensures) (λ past is. c.requires.suits past is c.in-Ok.command c.in-Ok.ensures.read)
+
+pub carry_out-report-requires-clause-suits : goal.carry_out-report-requires-clause-suits
+carry_out-report-requires-clause-suits g c past is = c.requires.suits past is c.in-Ok.command c.in-Ok.ensures.read

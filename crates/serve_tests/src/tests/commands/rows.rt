@@ -115,6 +115,35 @@ fn settings(rt: HostRuntime) {
     assert_row(&rt, rt.alloc(), &missing);
 }
 
+// Settings with which no numbers of `ok`s may be read.
+const NARROW: &[u8] =
+    b"[printer]\nports = [\"p\"]\nwindow = 1\n\n[admin]\nname = \"root\"\nkey_sha256 = \"470dc872b1b47dac8456c9f0800583d1176d1a2f194b626000379d1d7d7fc920\"\n";
+
+// A print by the numbers of `ok`s.
+#[test]
+fn sure(rt: HostRuntime) {
+    let sure = Row {
+        words: &["sure", "p", "a.gcode"],
+        ..DONE
+    };
+    let by_settings = Row {
+        words: &["sure", "p", "a.gcode", "--settings", "s"],
+        executed: b"M107\nG28\nG1 X10\nM84\n",
+        sends: 5,
+        ..DONE
+    };
+    let narrow = Row {
+        words: &["sure", "p", "a.gcode", "--settings", "a.gcode"],
+        file: NARROW,
+        code: 7,
+        text: b"settings: printer.numbered_oks: out of range\n",
+        ..UNSENT
+    };
+    assert_row(&rt, rt.alloc(), &sure);
+    assert_row(&rt, rt.alloc(), &by_settings);
+    assert_row(&rt, rt.alloc(), &narrow);
+}
+
 #[test]
 fn checks(rt: HostRuntime) {
     let check = Row {
