@@ -1,5 +1,5 @@
 -- One more deed of a bay.
-use Rattle.std.proofs.Common.{◌≡◌, ℕ, ◌<◌, List, [], ◌∷◌, ◌++◌, refl, sym, ◌∙◌, ap, subst}
+use Rattle.std.proofs.Common.{◌≡◌, ℕ, ◌<◌, Bool, List, [], ◌∷◌, ◌++◌, refl, sym, ◌∙◌, ap, subst}
 use Rattle.job_desk.specs.Data.{Data, new_desk, ScriptTexts, named_file}
 use Rattle.job_desk.proofs.Steady.{steady-select}
 use Rattle.temp_rules.specs.declared.limits.Limits.{Limits}
@@ -26,13 +26,14 @@ history-append deeds one = ap entries_in (desk_entries-append deeds one) ∙ ent
 
 -- calls leave the desk with which a session began
 pub first_stays : (calls : List DeskCall) (d e : Data) → desk_after_all calls d ≡ e →
-    new_desk e.scripts e.limits e.poll_ms ≡ new_desk d.scripts d.limits d.poll_ms
+    new_desk e.scripts e.limits e.poll_ms e.numbered ≡ new_desk d.scripts d.limits d.poll_ms d.numbered
 first_stays calls d e leads =
     let made = made-calls calls d in
     let same : ScriptTexts = e.scripts in
-    ap (λ (s : ScriptTexts). new_desk s e.limits e.poll_ms) (ap (λ (x : Data). x.scripts) (sym leads) ∙ scripts_stay calls d)
-    ∙ ap (λ (l : Limits). new_desk d.scripts l e.poll_ms) (ap (λ (x : Data). x.limits) (sym leads) ∙ made.0)
-    ∙ ap (λ (n : ℕ). new_desk d.scripts d.limits n) (ap (λ (x : Data). x.poll_ms) (sym leads) ∙ made.1)
+    ap (λ (s : ScriptTexts). new_desk s e.limits e.poll_ms e.numbered) (ap (λ (x : Data). x.scripts) (sym leads) ∙ scripts_stay calls d)
+    ∙ ap (λ (l : Limits). new_desk d.scripts l e.poll_ms e.numbered) (ap (λ (x : Data). x.limits) (sym leads) ∙ made.0)
+    ∙ ap (λ (n : ℕ). new_desk d.scripts d.limits n e.numbered) (ap (λ (x : Data). x.poll_ms) (sym leads) ∙ made.1)
+    ∙ ap (λ (b : Bool). new_desk d.scripts d.limits d.poll_ms b) (ap (λ (x : Data). x.numbered) (sym leads) ∙ made.2)
 
 -- a bay whose session is led on by one more deed
 pub bay_more : (old : BayData) (session : SessionData) (one : Deed) → IsBay old → MayEnter (entry_at one) (calls_at one) old.session.desk →

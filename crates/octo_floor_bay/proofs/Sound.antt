@@ -15,23 +15,23 @@ use Rattle.octo_floor_bay.specs.Prints.{IsInStep, IsSoundOver}
 
 -- the bay is in step with what its link recorded
 in_step_since : (kind : LinkKind) (front past : List WorldEvent) (b : BayData) → IsInStep kind (Some front) (Some past) b →
-    AreInStep kind front (history_in b.deeds) past b.session
+    AreInStep b.session.sender.numbered kind front (history_in b.deeds) past b.session
 in_step_since kind front past b step =
     let g = step (history_in b.deeds) refl past refl in
     let none : [] ≡ g.old = same_Some [] g.old g.was in
     let events : front ≡ g.old_events = same_Some front g.old_events g.was_link in
     let added : g.added ≡ history_in b.deeds = ap (λ (h : History). h ++ g.added) none ∙ sym g.grew in
-    subst (λ (es : List WorldEvent). AreInStep kind es (history_in b.deeds) past b.session) (sym events)
-    (subst (λ (h : History). AreInStep kind g.old_events h past b.session) added g.so)
+    subst (λ (es : List WorldEvent). AreInStep b.session.sender.numbered kind es (history_in b.deeds) past b.session) (sym events)
+    (subst (λ (h : History). AreInStep b.session.sender.numbered kind g.old_events h past b.session) added g.so)
 
 pub sound_over : (kind : LinkKind) (front past : List WorldEvent) (b : BayData) → IsBay b → IsInStep kind (Some front) (Some past) b →
     IsSoundOver kind front past b
 sound_over kind front past b bay step =
     let i = in_step_since kind front past b step in
-    let so : TiedSoFar kind front (history_in b.deeds) past = i.so_far in
+    let so : TiedSoFar b.session.sender.numbered kind front (history_in b.deeds) past = i.so_far in
     let till_last : List WorldEvent = past_after front so.timeline in
-    let tied = tied_at_last kind front (history_in b.deeds) past so in
-    let run : IsPrinterRun kind front (first_desk b.session) (desk_entries b.deeds) till_last =
+    let tied = tied_at_last b.session.sender.numbered kind front (history_in b.deeds) past so in
+    let run : IsPrinterRun b.session.sender.numbered kind front (first_desk b.session) (desk_entries b.deeds) till_last =
     record { new = refl; entered = bay.entered; tied = tied }
     in
     record {
@@ -39,5 +39,5 @@ sound_over kind front past b bay step =
       since = so.rest;
       past_is = so.past_is;
       tied = tied;
-      prints = prints_sound kind front (first_desk b.session) (desk_entries b.deeds) till_last run;
+      prints = prints_sound b.session.sender.numbered kind front (first_desk b.session) (desk_entries b.deeds) till_last run;
     }

@@ -5,8 +5,8 @@ use Rattle.print_queue.specs.declared.ending.Ending.{Ending}
 use Rattle.job_desk.specs.Data.{Data, Line, new_desk}
 use Rattle.job_desk.specs.Endings.{IsActive}
 use Rattle.job_desk.specs.Issued.{line_of}
-use Rattle.job_desk.specs.Note.{Noted, note_step}
-use Rattle.job_desk.specs.Run.{Run, run_of}
+use Rattle.job_desk.specs.Note.{Noted}
+use Rattle.job_desk.specs.Run.{Run}
 use Rattle.job_desk.specs.declared.issued.Issued.{Issued}
 use Rattle.job_desk.specs.declared.issued.Note.{Note}
 use Rattle.job_desk.specs.declared.link_fact.LinkFact.{LinkFact}
@@ -22,7 +22,7 @@ use Rattle.octo_house_rules.specs.Noted.{calls_of}
 use Rattle.octo_house_run_proof.proofs.Quiet.{kept_still, talked}
 use Rattle.octo_floor_print_proof.specs.Desk.{run_over}
 use Rattle.octo_floor_print_proof.proofs.Turned.{turn_leads, quiet_leads}
-use Rattle.octo_floor_bay.specs.Bay.{BayData, IsBay, IsQuietNote, AddsChange, AddsTurn, EndsBy, first_desk, run_in}
+use Rattle.octo_floor_bay.specs.Bay.{IsBay, IsQuietNote, AddsChange, AddsTurn, EndsBy, run_in}
 use Rattle.octo_floor_bay.specs.Deeds.{desk_entries}
 use Rattle.octo_floor_bay.specs.declared.deed.Deed.{Deed}
 use Rattle.octo_floor_bay.specs.declared.deed.Deed.TheVariants as deed
@@ -57,7 +57,7 @@ module _ (moment : ℕ) (kind : LinkKind) (link link' : Option (List WorldEvent)
   still none same grew =
       let Gave : Option Ending → Type 0 = λ o. EndsBy o run (run_in (bay_with y new)) in
       let Deeds : List Deed → Type 0 = λ deeds. EndsBy None run (run_in (bay_with y deeds)) in
-      let At : Data → Type 0 = λ d. EndsBy None run (run_over (desk_entries old) (new_desk d.scripts d.limits d.poll_ms)) in
+      let At : Data → Type 0 = λ d. EndsBy None run (run_over (desk_entries old) (new_desk d.scripts d.limits d.poll_ms d.numbered)) in
       subst Gave (sym none) (subst Deeds (sym grew) (subst At (sym same) ([], refl, runs_same run run refl refl)))
 
   quietly : turned.note ≡ None → AddsChange moment y.sender.acked x.desk.state y.desk.state old new → EndsBy turned.ending run (run_in (bay_with y new))

@@ -23,7 +23,7 @@ pub record BayData : Type 0 where
 
 -- the desk with which a session began: no step changes what it was made with
 abbrev pub first_desk : SessionData → Data
-first_desk s = new_desk s.desk.scripts s.desk.limits s.desk.poll_ms
+first_desk s = new_desk s.desk.scripts s.desk.limits s.desk.poll_ms s.desk.numbered
 
 -- the deeds may be done one after another from the first desk on, and lead to the session's desk
 pub record IsBay (b : BayData) : Type 0 where

@@ -8,9 +8,9 @@ use Rattle.octo_floor_print_proof.specs.Prints.{ArePrintsSound}
 use Rattle.octo_floor_bay.specs.Bay.{BayData, first_desk}
 use Rattle.octo_floor_bay.specs.Deeds.{desk_entries, history_in}
 
--- the history of the deeds, what the link recorded since this front, and the session are in step
+-- the history of the deeds, what the link recorded since this front, and the session are in step, by how the session counts `ok`s
 abbrev pub IsInStep : LinkKind → (front past : Option (List WorldEvent)) → BayData → Type 0
-IsInStep kind front past b = InStep kind (Some []) (Some (history_in b.deeds)) front past b.session
+IsInStep kind front past b = InStep b.session.sender.numbered kind (Some []) (Some (history_in b.deeds)) front past b.session
 
 -- the deeds were tied to what the link had recorded at the last of them, after every deed; and so the prints are sound: the
 -- printer executed the first commands of each, all of each that is done, and no line of one that had ended was sent later
@@ -18,5 +18,5 @@ pub record IsSoundOver (kind : LinkKind) (front past : List WorldEvent) (b : Bay
   pub till_last : List WorldEvent
   pub since : List WorldEvent
   pub past_is : past ≡ till_last ++ since
-  pub tied : AreTied kind front (history_in b.deeds) till_last
+  pub tied : AreTied b.session.sender.numbered kind front (history_in b.deeds) till_last
   pub prints : ArePrintsSound kind front (first_desk b.session) (desk_entries b.deeds) tied.timeline

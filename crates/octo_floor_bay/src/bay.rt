@@ -54,7 +54,7 @@ impl Bay {
         requires { IsNewSession session }
         ensures bay { IfOk result (λ bay. bay ≡ record { session = session; deeds = [] }) }
         ensures tied { IfOk result (λ bay. (kind : LinkKind) (front : Option (List WorldEvent))
-            → SuitsAs false front kind.oks → IsInStep kind front front bay) }
+            → SuitsAs session.sender.numbered front kind.oks → IsInStep kind front front bay) }
     {
         let deeds = EventLog::new(alloc)?;
         Ok(Bay { session, deeds })

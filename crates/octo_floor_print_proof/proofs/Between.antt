@@ -27,15 +27,15 @@ unsent_before [] rest none = refl
 unsent_before (event ∷ events) rest none = unsent_by event events rest (unsent_before events rest) (is_opened event) none
 
 -- it is tied to what the link had recorded at the last entry
-pub tied_at_last : (kind : LinkKind) (front : List WorldEvent) (h : History) (past : List WorldEvent) (t : TiedSoFar kind front h past) →
-    AreTied kind front h (past_after front t.timeline)
-tied_at_last kind front h past t = record {
-  now = subst (λ (x : History). Tied kind front x (past_after front t.timeline)) (sym t.history_is) (t.throughout t.timeline [] (sym (append-nil t.timeline))).tied;
+pub tied_at_last : (numbered : Bool) (kind : LinkKind) (front : List WorldEvent) (h : History) (past : List WorldEvent) (t : TiedSoFar numbered kind front h past) →
+    AreTied numbered kind front h (past_after front t.timeline)
+tied_at_last numbered kind front h past t = record {
+  now = subst (λ (x : History). Tied numbered kind front x (past_after front t.timeline)) (sym t.history_is) (t.throughout t.timeline [] (sym (append-nil t.timeline))).tied;
   timeline = t.timeline;
   history_is = t.history_is;
   past_is = refl;
   throughout = λ first later is. before first later (t.throughout first later is);
 }
   where
-    before : (first later : Timeline) → WasTied kind front first (events_of later ++ t.rest) → WasTied kind front first (events_of later)
+    before : (first later : Timeline) → WasTied numbered kind front first (events_of later ++ t.rest) → WasTied numbered kind front first (events_of later)
     before first later w = record { tied = w.tied; caused = w.caused; unsent = λ shut. unsent_before (events_of later) t.rest (w.unsent shut) }

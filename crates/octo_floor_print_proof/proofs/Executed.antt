@@ -1,5 +1,5 @@
 -- What the printer executed of a print.
-use Rattle.std.proofs.Common.{◌≡◌, ℕ, ◌<◌, List, [], ◌∷◌, ◌++◌, take, drop, sym, ◌∙◌, ap, subst}
+use Rattle.std.proofs.Common.{◌≡◌, ℕ, ◌<◌, Bool, List, [], ◌∷◌, ◌++◌, take, drop, sym, ◌∙◌, ap, subst}
 use Rattle.std.proofs.lemmas.List.{take-append-drop}
 use Rattle.job_desk.specs.Data.{Data, Line, new_desk}
 use Rattle.job_desk.specs.Note.{note_step, first_fact}
@@ -42,33 +42,33 @@ may_enter_all [] d e = tt
 may_enter_all (one ∷ all) d e = may_append one.calls (desk_calls_in all) d (may_enter one.entry one.calls d e.0) (may_enter_all all (desk_after_all one.calls d) e.1)
 
 -- the story of a print over entries from a new desk
-story_over : (d : Data) → d ≡ new_desk d.scripts d.limits d.poll_ms → (all : List DeskEntry) → AreEntered all d → IsShort (entries_in all) → (p : ℕ) → 0 < p →
+story_over : (d : Data) → d ≡ new_desk d.scripts d.limits d.poll_ms d.numbered → (all : List DeskEntry) → AreEntered all d → IsShort (entries_in all) → (p : ℕ) → 0 < p →
     Story d.scripts p (of_print p (run_over all d).begun) (trace p (entries_in all)) (of_print p (run_over all d).ends)
 story_over d new all entered short p some =
     let may : MayCallAll (desk_calls_in all) (new_run d) = may_run (desk_calls_in all) (new_run d) (may_enter_all all d entered) in
     let stories : HasStories d.scripts (run_over all d) =
     subst (λ (x : Data). HasStories d.scripts (run_of (desk_calls_in all) (new_run x))) (sym new)
-    (every_run d.scripts d.limits d.poll_ms (desk_calls_in all) (subst (λ (x : Data). MayCallAll (desk_calls_in all) (new_run x)) new may))
+    (every_run d.scripts d.limits d.poll_ms d.numbered (desk_calls_in all) (subst (λ (x : Data). MayCallAll (desk_calls_in all) (new_run x)) new may))
     in
-    let tells = lives_over d.scripts d.limits d.poll_ms p some d new all entered short in
+    let tells = lives_over d.scripts d.limits d.poll_ms d.numbered p some d new all entered short in
     let same : pulled_of p (run_over all d).pulled ≡ trace p (entries_in all) =
     of_pulled p (run_over all d).pulled ∙ ap (λ (lines : List Line). print_lines p lines) tells.pulled
     in
     subst (λ (lines : List Line). Story d.scripts p (of_print p (run_over all d).begun) lines (of_print p (run_over all d).ends)) same (stories.stories p some)
 
 -- a printer's run when its timeline had come so far
-pub record IsThen (kind : LinkKind) (front : List WorldEvent) (desk : Data) (so_far more : List DeskEntry) (first later : Timeline) : Type 0 where
+pub record IsThen (numbered : Bool) (kind : LinkKind) (front : List WorldEvent) (desk : Data) (so_far more : List DeskEntry) (first later : Timeline) : Type 0 where
   pub entered : AreEntered so_far desk
   pub entered_all : AreEntered (so_far ++ more) desk
   pub short : IsShort (entries_in so_far)
   pub short_all : IsShort (entries_in so_far ++ entries_in more)
   pub whole : entries_in so_far ++ entries_in more ≡ history_of first ++ history_of later
-  pub tied_all : Tied kind front (history_of first ++ history_of later) (past_after front first ++ events_of later)
-  pub was : WasTied kind front first (events_of later)
+  pub tied_all : Tied numbered kind front (history_of first ++ history_of later) (past_after front first ++ events_of later)
+  pub was : WasTied numbered kind front first (events_of later)
 
-pub run_then : (kind : LinkKind) (front : List WorldEvent) (desk : Data) (entries : List DeskEntry) (past : List WorldEvent) (run : IsPrinterRun kind front desk entries past)
-    (first : Timeline) (so_far : List DeskEntry) (is : IsSoFar entries so_far run.tied.timeline first) → IsThen kind front desk so_far is.more first is.later
-run_then kind front desk entries past run first so_far is =
+pub run_then : (numbered : Bool) (kind : LinkKind) (front : List WorldEvent) (desk : Data) (entries : List DeskEntry) (past : List WorldEvent) (run : IsPrinterRun numbered kind front desk entries past)
+    (first : Timeline) (so_far : List DeskEntry) (is : IsSoFar entries so_far run.tied.timeline first) → IsThen numbered kind front desk so_far is.more first is.later
+run_then numbered kind front desk entries past run first so_far is =
     let parts : entries_in entries ≡ entries_in so_far ++ entries_in is.more = ap entries_in is.entries_are ∙ entries-append so_far is.more in
     let split : entries_in entries ≡ history_of first ++ history_of is.later =
     run.tied.history_is ∙ ap history_of is.timeline_is ∙ history_of-append first is.later
@@ -77,24 +77,24 @@ run_then kind front desk entries past run first so_far is =
     run.tied.past_is ∙ ap (λ (l : Timeline). past_after front l) is.timeline_is ∙ past_after-append front first is.later
     in
     let all : AreEntered (so_far ++ is.more) desk = subst (λ (x : List DeskEntry). AreEntered x desk) is.entries_are run.entered in
-    let short : IsShort (entries_in so_far ++ entries_in is.more) = subst (λ (x : History). IsShort x) parts (short_of kind front (entries_in entries) past run.tied) in
+    let short : IsShort (entries_in so_far ++ entries_in is.more) = subst (λ (x : History). IsShort x) parts (short_of numbered kind front (entries_in entries) past run.tied) in
     record {
       entered = (entered_first so_far is.more desk all).0;
       entered_all = all;
       short = short_first (entries_in so_far) (entries_in is.more) short;
       short_all = short;
       whole = sym parts ∙ split;
-      tied_all = subst (λ (es : List WorldEvent). Tied kind front (history_of first ++ history_of is.later) es) events
-          (subst (λ (x : History). Tied kind front x past) split run.tied.now);
+      tied_all = subst (λ (es : List WorldEvent). Tied numbered kind front (history_of first ++ history_of is.later) es) events
+          (subst (λ (x : History). Tied numbered kind front x past) split run.tied.now);
       was = run.tied.throughout first is.later is.timeline_is;
     }
 
-pub prints_in_order : (kind : LinkKind) (front : List WorldEvent) (desk : Data) (entries : List DeskEntry) (past : List WorldEvent)
-    (run : IsPrinterRun kind front desk entries past) → EachPrintIsInOrder kind front desk entries run.tied.timeline
-prints_in_order kind front desk entries past run first so_far is p some commands began =
-    let t = run_then kind front desk entries past run first so_far is in
+pub prints_in_order : (numbered : Bool) (kind : LinkKind) (front : List WorldEvent) (desk : Data) (entries : List DeskEntry) (past : List WorldEvent)
+    (run : IsPrinterRun numbered kind front desk entries past) → EachPrintIsInOrder kind front desk entries run.tied.timeline
+prints_in_order numbered kind front desk entries past run first so_far is p some commands began =
+    let t = run_then numbered kind front desk entries past run first so_far is in
     let now : History = entries_in so_far in
-    let tells = lives_over desk.scripts desk.limits desk.poll_ms p some desk run.new so_far t.entered t.short in
+    let tells = lives_over desk.scripts desk.limits desk.poll_ms desk.numbered p some desk run.new so_far t.entered t.short in
     let at = home_of p now (of_print p (run_over so_far desk).ends) tells.lives in
     let story = story_over desk run.new so_far t.entered t.short p some in
     let count : ℕ = executed_in kind front (past_after front first) at.0 in
@@ -107,20 +107,20 @@ prints_in_order kind front desk entries past run first so_far is p some commands
     subst (λ (h : History). IsExecutedInOrder kind front (past_after front first) p commands h) is.same
     (record { home = at.0; lives = at.1; count = part.count; executed = part.are })
 
-pub done_prints_whole : (kind : LinkKind) (front : List WorldEvent) (desk : Data) (entries : List DeskEntry) (past : List WorldEvent)
-    (run : IsPrinterRun kind front desk entries past) → EachDonePrintIsWhole kind front desk entries run.tied.timeline
-done_prints_whole kind front desk entries past run first so_far is p some ends =
-    let t = run_then kind front desk entries past run first so_far is in
+pub done_prints_whole : (numbered : Bool) (kind : LinkKind) (front : List WorldEvent) (desk : Data) (entries : List DeskEntry) (past : List WorldEvent)
+    (run : IsPrinterRun numbered kind front desk entries past) → EachDonePrintIsWhole kind front desk entries run.tied.timeline
+done_prints_whole numbered kind front desk entries past run first so_far is p some ends =
+    let t = run_then numbered kind front desk entries past run first so_far is in
     let now : History = entries_in so_far in
     let past_so_far : List WorldEvent = past_after front first in
-    let tells = lives_over desk.scripts desk.limits desk.poll_ms p some desk run.new so_far t.entered t.short in
+    let tells = lives_over desk.scripts desk.limits desk.poll_ms desk.numbered p some desk run.new so_far t.entered t.short in
     let at = done_ended p now (of_print p (run_over so_far desk).ends) ends tells.lives in
     let home : ℕ = at.0 in
     let story = story_over desk run.new so_far t.entered t.short p some in
     let whole : IsWhole p desk.scripts (of_print p (run_over so_far desk).begun) (trace p now) = story_done p desk.scripts _ _ _ story ends in
-    let tied : Tied kind front now past_so_far = subst (λ (h : History). Tied kind front h past_so_far) (sym is.same) t.was.tied in
+    let tied : Tied numbered kind front now past_so_far = subst (λ (h : History). Tied numbered kind front h past_so_far) (sym is.same) t.was.tied in
     let executed : print_lines p (lines_executed kind front past_so_far home now) ≡ trace p now =
-    all_before p (executed_in kind front past_so_far home) (issued_of home now) (executed_all kind front p home now past_so_far tied at.1 at.3) ∙ sym at.2.all
+    all_before p (executed_in kind front past_so_far home) (issued_of home now) (executed_all numbered kind front p home now past_so_far tied at.1 at.3) ∙ sym at.2.all
     in
     subst (λ (h : History). IsExecutedWhole kind desk.scripts front past_so_far p (of_print p (run_over so_far desk).begun) h) is.same
     (record {

@@ -193,7 +193,7 @@ entries-append [] later = refl
 entries-append (one ∷ first) later = ap (λ (h : History). one.entry ∷ h) (entries-append first later)
 
 -- entries from a new desk
-module _ (scripts : ScriptTexts) (limits : Limits) (poll_ms : ℕ) (p : ℕ) (some : 0 < p) (d : Data) (new : d ≡ new_desk scripts limits poll_ms) where
+module _ (scripts : ScriptTexts) (limits : Limits) (poll_ms : ℕ) (numbered : Bool) (p : ℕ) (some : 0 < p) (d : Data) (new : d ≡ new_desk scripts limits poll_ms numbered) where
   pub positive_is : nat_eq 0 p ≡ false
   positive_is = below_test 0 p some
 

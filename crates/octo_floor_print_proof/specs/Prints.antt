@@ -1,5 +1,5 @@
 -- What holds of the prints of one printer over a lossy line.
-use Rattle.std.specs.Prelude.{◌≡◌, ℕ, ◌<◌, List, [], ◌∷◌, ◌++◌}
+use Rattle.std.specs.Prelude.{◌≡◌, ℕ, ◌<◌, Bool, List, [], ◌∷◌, ◌++◌}
 use Rattle.job_desk.specs.Data.{Data}
 use Rattle.job_desk.specs.Run.{Fate, Finished, of_print}
 use Rattle.printer_model.specs.declared.event.WorldEvent.{WorldEvent}
@@ -10,10 +10,10 @@ use Rattle.octo_house_rules.specs.Timeline.{Timeline, history_of, events_of, pas
 use Rattle.octo_floor_print_proof.specs.Desk.{DeskEntry, AreEntered, entries_in, run_over}
 
 -- a printer over its link: its desk was new, made these entries, and they are tied to the link's history
-pub record IsPrinterRun (kind : LinkKind) (front : List WorldEvent) (desk : Data) (entries : List DeskEntry) (past : List WorldEvent) : Type 0 where
+pub record IsPrinterRun (numbered : Bool) (kind : LinkKind) (front : List WorldEvent) (desk : Data) (entries : List DeskEntry) (past : List WorldEvent) : Type 0 where
   pub new : IsNewDesk desk
   pub entered : AreEntered entries desk
-  pub tied : AreTied kind front (entries_in entries) past
+  pub tied : AreTied numbered kind front (entries_in entries) past
 
 -- the first of the entries are those of the first part of a timeline
 pub record IsSoFar (entries first_entries : List DeskEntry) (timeline first : Timeline) : Type 0 where
