@@ -1,6 +1,7 @@
 -- Events that come after others.
 use Rattle.std.proofs.Common.{◌≡◌, ℕ, List, [], ◌∷◌, ◌++◌, refl, ap}
-use Rattle.octo_floor_rules.specs.Events.{FloorHistory, started_rows}
+use Rattle.print_queue.specs.declared.ending.Ending.{Ending}
+use Rattle.octo_floor_rules.specs.Events.{FloorHistory, started_rows, endings}
 use Rattle.octo_floor_rules.specs.Stock.{Stock, after_event, after_events, AllMayCome}
 use Rattle.octo_floor_rules.specs.declared.event.FloorEvent.TheVariants.{Noted, Ended, Started, Passed}
 
@@ -22,3 +23,11 @@ rows_more (Started at row entry ∷ events) more = ap (λ rows. row ∷ rows) (r
 rows_more (Noted at note ∷ events) more = rows_more events more
 rows_more (Ended at ending ∷ events) more = rows_more events more
 rows_more (Passed entry ∷ events) more = rows_more events more
+
+-- the ends of prints in events after others
+pub endings_more : (events more : FloorHistory) → endings (events ++ more) ≡ endings events ++ endings more
+endings_more [] more = refl
+endings_more (Ended at ending ∷ events) more = ap (λ (ends : List Ending). ending ∷ ends) (endings_more events more)
+endings_more (Noted at note ∷ events) more = endings_more events more
+endings_more (Started at row entry ∷ events) more = endings_more events more
+endings_more (Passed entry ∷ events) more = endings_more events more

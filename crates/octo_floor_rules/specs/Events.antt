@@ -2,6 +2,7 @@
 use Rattle.std.specs.Prelude.{ℕ, ◌==◌, if◌then◌else◌, List, [], ◌∷◌}
 use Rattle.job_desk.specs.declared.issued.Note.{Note}
 use Rattle.print_queue.specs.declared.ending.Ending.{Ending}
+use Rattle.print_queue.specs.declared.ending.Outcome.TheVariants.{Active}
 use Rattle.print_queue.specs.declared.entry.QueueEntry.{QueueEntry}
 use Rattle.print_queue.specs.declared.row.PrintRow.{PrintRow}
 use Rattle.octo_floor_rules.specs.declared.event.FloorEvent.{FloorEvent}
@@ -10,6 +11,10 @@ use Rattle.octo_floor_rules.specs.declared.event.FloorEvent.TheVariants.{Noted, 
 -- the events of a floor, the first one first
 abbrev pub FloorHistory : Type 0
 FloorHistory = List FloorEvent
+
+-- what fills a list of events before they come: the end of no print
+abbrev pub no_event : FloorEvent
+no_event = Ended 0 (record { print = 0; outcome = Active })
 
 -- the records of the prints that were started, as they began
 abbrev pub started_rows : FloorHistory → List PrintRow

@@ -1,6 +1,9 @@
 //! The events of a floor.
+ghost use Rattle.std.specs.Prelude.{◌≡◌};
+ghost use Rattle.octo_floor_rules.specs.Events.{no_event};
+
 use job_desk::Note;
-use print_queue::{Ending, PrintRow, QueueEntry};
+use print_queue::{Ending, Outcome, PrintRow, QueueEntry};
 
 /// What happened on a floor. Printers are counted from 0.
 #[derive(Drop)]
@@ -25,4 +28,21 @@ pub enum FloorEvent {
     Passed {
         entry: QueueEntry,
     },
+}
+
+impl Default for FloorEvent {
+    ghost is_default = { λ event. event ≡ no_event };
+
+    /// What fills a list of events before they come: the end of no print.
+    fn default() -> Self
+        ensures { result ≡ no_event }
+    {
+        FloorEvent::Ended {
+            printer: 0,
+            ending: Ending {
+                print: 0,
+                outcome: Outcome::Active,
+            },
+        }
+    }
 }

@@ -1,0 +1,96 @@
+//! Runs of a floor.
+ghost use Rattle.std.specs.Prelude.{◌≡◌, ◌≢◌, AllPairs};
+ghost use Rattle.octo_floor_rules.specs.Events.{FloorHistory, started_rows};
+ghost use Rattle.octo_floor_rules.specs.declared.end.Why.TheVariants as why;
+ghost use Rattle.octo_floor_step.specs.Objects.{link_state, store_state};
+ghost use Rattle.octo_floor_round_proof.specs.Floor.{setting, AreUp};
+ghost use Rattle.octo_floor.specs.Links.{link_states};
+ghost use Rattle.octo_floor_run_proof.specs.Leaving.{Leaves};
+ghost use Rattle.octo_floor_round_proof.specs.Points.{GoesOn};
+ghost use Rattle.octo_floor_run_proof.specs.Run.{AreCalled, AreNumbersOf, EndsFor, reason_of, run_begun};
+
+use crate::floor::Floor;
+use crate::links::Links;
+use octo_floor_rules::{FloorEnd, Why};
+use octo_floor_step::EventList;
+use octo_keeper::{Keeper, Shelf};
+use octo_outside::Clock;
+use printer_link::Link;
+
+impl Floor {
+    // Why a run that is over ended.
+    fn reason(&self) -> Why
+        ensures { result ≡ reason_of self.now.ledger.fault }
+    {
+        match self.ledger.fault() {
+            Some(fault) => Why::Fault(fault),
+            None => Why::Over,
+        }
+    }
+
+    // Disconnects the printers once nothing goes on. Returns whether they leave.
+    fn leave(&mut self, leaves: bool) -> bool
+        ensures { Leaves leaves self.old result self.new }
+    {
+        if leaves {
+            return true;
+        }
+        if !self.is_over() {
+            return false;
+        }
+        self.disconnect_all();
+        true
+    }
+
+    /// Makes rounds until nothing goes on and nothing more can be started, at most `turns`. Then it disconnects each printer that
+    /// isn't lost, and returns when each is offline or lost. It rests the clock after a round in which no line was received. The
+    /// links, the keeper and the shelf are those of the floor's former rounds.
+    pub fn run<L: Link + Drop, K: Keeper, S: Shelf, T: Clock>(
+        &mut self,
+        links: &mut Links<L>,
+        keeper: &mut K,
+        shelf: &mut S,
+        clock: &mut T,
+        turns: u64,
+    ) -> FloorEnd
+        requires up { let state = link_state L.kind L.past L.calls L.up L.faults in
+            AreUp self.old.bays (link_states state links.old) }
+
+        // As its rounds, one after the other, in which no fault had come before.
+        ensures goes { let state = link_state L.kind L.past L.calls L.up L.faults in
+            let store = store_state K.tables K.faults S.files S.faults in
+            (events : FloorHistory) × GoesOn
+            (run_begun (setting self.old (link_states state links.old)
+            (store keeper.old shelf.old)))
+            (setting self.new (link_states state links.new) (store keeper.new shelf.new)) events }
+        ensures records { AllPairs (λ a b. a.number ≢ b.number)
+            (started_rows self.new.ledger.history) }
+
+        // What it returns.
+        ensures numbers { AreNumbersOf self.new result }
+        ensures ends { EndsFor self.old self.new result.why }
+        ensures used { let state = link_state L.kind L.past L.calls L.up L.faults in
+            result.why ≡ why.TurnsUsed
+            → AreCalled turns (link_states state links.old) (link_states state links.new) }
+        ensures up_after { let state = link_state L.kind L.past L.calls L.up L.faults in
+            AreUp self.new.bays (link_states state links.new) }
+    {
+        self.ledger.begin_run();
+        let mut events = EventList::new();
+        let mut moment = 0;
+        let mut leaves = false;
+        for _ in 0..turns {
+            moment = clock.now().max(moment);
+            events.clear();
+            let heard = self.round_into(links, keeper, shelf, moment, &mut events);
+            leaves = self.leave(leaves);
+            if leaves && self.have_left() {
+                return self.end(self.reason());
+            }
+            if !heard {
+                clock.rest();
+            }
+        }
+        self.end(Why::TurnsUsed)
+    }
+}

@@ -1,0 +1,12 @@
+pub mod Bays
+pub mod Does
+pub mod Floors
+pub mod Goes
+pub mod Going
+pub mod Idle
+pub mod Ledgers
+pub mod News
+pub mod Places
+pub mod Rounds
+pub mod Tables
+pub mod Tells

@@ -1,0 +1,5 @@
+pub mod Counted
+pub mod Faults
+pub mod Phases
+pub mod Taking
+pub mod Turning
