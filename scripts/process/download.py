@@ -2,6 +2,7 @@
 
 import glob
 import os
+import re
 import sys
 import tempfile
 
@@ -11,8 +12,10 @@ import upload  # noqa: E402
 from serving import Host, exchange, message, until  # noqa: E402
 from upload import cannot_trace, check  # noqa: E402
 
-CALLS = "open,openat,read,pread64,readv,mmap,sendto,sendmsg,write,writev"
+CALLS = "open,openat,read,pread64,readv,mmap,sendto,sendmsg,write,writev,poll,ppoll"
 CONTENT = b"G1 X100 Y100 E1\n" * 65536
+# A rest of a connection, after much that it has sent: a poll of nothing, for a millisecond.
+REST = re.compile(r"poll\([^,]*, 0, 1\)")
 
 
 def traced(folder, work):
@@ -56,6 +59,7 @@ def main():
         path = os.path.join(folder, "files", "a.gcode")
     readers = [calls for calls in threads if reads(calls, path)]
     check("bytes that are read of the file, by each thread that reads it", [reads(calls, path) for calls in readers], [len(CONTENT)])
+    check("the reader rests", [any(REST.match(call) for call in calls) for calls in readers], [True])
     check("the reader writes replies", ['"HTTP/1.1 20' in "\n".join(calls) for calls in readers], [True])
 
 
