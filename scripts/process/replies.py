@@ -12,22 +12,15 @@ import threading
 import time
 
 sys.path.insert(0, "scripts/lib")
+sys.path.insert(0, "scripts/process")
+import upload  # noqa: E402
 from serving import LIMIT, OCTO, Host, Printer, free_port, until  # noqa: E402
+from upload import check  # noqa: E402
 
 # The received lines that the printer loses, those that it receives with another digit, and its replies that are lost.
 DROP, GARBLE, LOST = "5,31,90,171", "9,55,130", "4,5,17,29,41,42,43,77,101,140,188"
 # After so many commands a printer falls silent.
 SPOKEN = 12
-failed = False
-
-
-def check(name, found, wanted):
-    global failed
-    if found == wanted:
-        print("ok: " + name, flush=True)
-    else:
-        print("failed: %s: %r, wanted %r" % (name, found, wanted), flush=True)
-        failed = True
 
 
 def commands(name, count):
@@ -198,4 +191,4 @@ def checks(folder):
 if __name__ == "__main__":
     with tempfile.TemporaryDirectory() as made:
         checks(made)
-    sys.exit(failed)
+    sys.exit(1 if upload.failed else 0)
