@@ -2,8 +2,10 @@ pub mod Ending
 pub mod Issued
 pub mod Named
 pub mod OwnOks
+pub mod Rising
 pub mod Sending
 pub mod Silence
 pub mod Soundness
 pub mod Tally
 pub mod Waiting
+pub mod Widening

@@ -1,138 +1,118 @@
 -- What a session acknowledges if `ok`s count by the numbers that they name.
-use Rattle.std.proofs.Common.{◌≡◌, ℕ, ◌-◌, ◌≤◌, Bool, true, false, ◌||◌, List, [], ◌∷◌, arith, refl, sym, ◌∙◌, ap}
-use Rattle.std.specs.Prelude.{Option, None, Some, max}
-use Rattle.std.specs.List.{list_any}
+use Rattle.std.proofs.Common.{◌≡◌, ℕ, ◌≤◌, Bool, true, false, List, [], ◌∷◌, ◌++◌, arith, refl, sym, ◌∙◌, subst}
+use Rattle.std.specs.Prelude.{Option, None, Some}
 use Rattle.std.proofs.lemmas.Grind.{common_steps}
 use Rattle.marlin_reply.specs.declared.reply.Reply.{Reply}
 use Rattle.marlin_reply.specs.declared.reply.Reply.TheVariants as reply
-use Rattle.marlin_reply.specs.declared.reply.Temps.{Temps}
-use Rattle.marlin_frame.specs.Numbering.{place_of}
 use Rattle.send_window.specs.declared.session_end.SessionEnd.{SessionEnd}
-use Rattle.send_window.specs.Data.{SenderData, sender_after_dial}
+use Rattle.send_window.specs.Data.{SenderData, IsSound, NoneEarly, sender_after_dial}
 use Rattle.send_window.specs.Hearing.{heard_reply, ok_named, ok_in, unless_ended}
-use Rattle.send_window.specs.Session.{Step, hears, ticks, issues, gives, after_step, after_steps, replies_of}
-use Rattle.send_window.specs.Counting.{named_in, most_named, is_greeting_ok, IsNamedLate, AreNamedLate}
+use Rattle.send_window.specs.Session.{Step, hears, ticks, issues, gives, after_step, after_steps, AreAllowed, IsAfterHello, AreAfterHello}
+use Rattle.send_window.specs.Counting.{Traffic, Account, name_in, with_name, with_traffic, after_traffic, traffic_at, traffic_of}
 use Rattle.send_window.specs.Laws.{AckedIsNamed, FlagsAreNamed}
 use Rattle.send_window.proofs.Sending.{keeps_kind}
+use Rattle.send_window.proofs.Soundness.{begun_sound, step_sound}
 
--- what one step adds: the number that its reply names, and whether it acknowledges the hello
-pub record Names (number : ℕ) (greets : Bool) (late : Type 0) (s after : SenderData) : Type 0 where
-  pub unswallowed : s.swallow ≡ false → after.swallow ≡ false
-  pub most : after.acked ≤ max s.acked (place_of number)
-  pub exact : after.ended ≡ None → late → after.acked ≡ max s.acked (place_of number)
-  pub open_before : after.ended ≡ None → s.ended ≡ None
-  pub readies : after.ended ≡ None → after.ready ≡ (greets || s.ready)
+-- the account of lines and replies in two parts
+pub after_traffic-append : (xs ys : List Traffic) (c : Account) → after_traffic (xs ++ ys) c ≡ after_traffic ys (after_traffic xs c)
+after_traffic-append [] ys c = refl
+after_traffic-append (item ∷ xs) ys c = after_traffic-append xs ys (with_traffic item c)
 
-named_names : (number p b : Option ℕ) (t : Option Temps) (moment : ℕ) (s : SenderData) → s.ended ≡ None →
-    Names (named_in (reply.Ok number p b t)) (is_greeting_ok (reply.Ok number p b t)) (IsNamedLate (hears (reply.Ok number p b t) moment) s) s (ok_named s.ready number moment s)
-named_names number p b t moment s none_yet = record {
+-- a sender keeps this account while its session goes on, and never acknowledges more
+pub record Accounted (c : Account) (s : SenderData) : Type 0 where
+  pub below : s.acked ≤ c.acked
+  pub hellos : s.ended ≡ None → s.hellos ≡ c.hellos
+  pub begun : s.ended ≡ None → s.ready ≡ c.begun
+  pub acked : s.ended ≡ None → s.acked ≡ c.acked
+  pub unswallowed : s.swallow ≡ false
+
+named_accounts : (number : Option ℕ) (moment : ℕ) (s : SenderData) (c : Account) → s.ended ≡ None → Accounted c s →
+    Accounted (with_name number c) (ok_named s.ready number moment s)
+named_accounts number moment s c none_yet a = record {
+  below = grind (arith, common_steps);
+  hellos = grind (arith, common_steps);
+  begun = grind (arith, common_steps);
+  acked = grind (arith, common_steps);
   unswallowed = grind (arith, common_steps);
-  most = grind (arith, common_steps);
-  exact = grind (arith, common_steps);
-  open_before = λ _. none_yet;
-  readies = grind (arith, common_steps);
 }
 
-ok_names : (by_number : Bool) (number p b : Option ℕ) (t : Option Temps) (moment : ℕ) (s : SenderData) → by_number ≡ true → s.ended ≡ None →
-    Names (named_in (reply.Ok number p b t)) (is_greeting_ok (reply.Ok number p b t)) (IsNamedLate (hears (reply.Ok number p b t) moment) s) s (ok_in by_number number moment s)
-ok_names true number p b t moment s named none_yet = named_names number p b t moment s none_yet
-ok_names false number p b t moment s named none_yet = absurd (cc)
+ok_accounts : (by_number : Bool) (number : Option ℕ) (moment : ℕ) (s : SenderData) (c : Account) → by_number ≡ true → s.ended ≡ None → Accounted c s →
+    Accounted (with_name number c) (ok_in by_number number moment s)
+ok_accounts true number moment s c named none_yet a = named_accounts number moment s c none_yet a
+ok_accounts false number moment s c named none_yet a = absurd (cc)
 
-reply_names : (heard_line : Reply) (moment : ℕ) (s : SenderData) → s.numbered ≡ true → s.ended ≡ None →
-    Names (named_in heard_line) (is_greeting_ok heard_line) (IsNamedLate (hears heard_line moment) s) s (heard_reply heard_line moment s)
-reply_names (reply.Ok number p b t) moment s named none_yet = ok_names s.numbered number p b t moment s named none_yet
-reply_names (reply.Resend number) moment s named none_yet = grind (arith, common_steps)
-reply_names reply.Start moment s named none_yet = grind (arith, common_steps)
-reply_names reply.Busy moment s named none_yet = grind (arith, common_steps)
-reply_names (reply.Temps _) moment s named none_yet = grind (arith, common_steps)
-reply_names reply.Error moment s named none_yet = grind (arith, common_steps)
-reply_names reply.Other moment s named none_yet = grind (arith, common_steps)
+reply_accounts : (heard_line : Reply) (moment : ℕ) (s : SenderData) (c : Account) → s.numbered ≡ true → s.ended ≡ None → Accounted c s →
+    Accounted (with_name (name_in heard_line) c) (heard_reply heard_line moment s)
+reply_accounts (reply.Ok number _ _ _) moment s c named none_yet a = ok_accounts s.numbered number moment s c named none_yet a
+reply_accounts (reply.Resend number) moment s c named none_yet a = grind (arith, common_steps)
+reply_accounts reply.Start moment s c named none_yet a = grind (arith, common_steps)
+reply_accounts reply.Busy moment s c named none_yet a = grind (arith, common_steps)
+reply_accounts (reply.Temps _) moment s c named none_yet a = grind (arith, common_steps)
+reply_accounts reply.Error moment s c named none_yet a = grind (arith, common_steps)
+reply_accounts reply.Other moment s c named none_yet a = grind (arith, common_steps)
 
-unless_ended_names : (ended : Option SessionEnd) (number : ℕ) (greets : Bool) (late : Type 0) (after s : SenderData) → s.ended ≡ ended →
-    (ended ≡ None → Names number greets late s after) → Names number greets late s (unless_ended ended after s)
-unless_ended_names None number greets late after s e names = names refl
-unless_ended_names (Some why) number greets late after s e names = record {
-  unswallowed = λ before. before;
-  most = omega arith;
-  exact = λ (open_still : s.ended ≡ None) _. absurd (cc);
-  open_before = λ open_still. open_still;
-  readies = λ (open_still : s.ended ≡ None). absurd (cc);
+-- after an end acked stays, and no reply lessens the account
+ended_accounts : (ended : Option SessionEnd) (number : Option ℕ) (after s : SenderData) (c : Account) → s.ended ≡ ended → Accounted c s →
+    (ended ≡ None → Accounted (with_name number c) after) → Accounted (with_name number c) (unless_ended ended after s)
+ended_accounts None number after s c e a then_so = then_so refl
+ended_accounts (Some why) number after s c e a then_so = record {
+  below = grind (arith, common_steps);
+  hellos = λ (open_still : s.ended ≡ None). absurd (cc);
+  begun = λ (open_still : s.ended ≡ None). absurd (cc);
+  acked = λ (open_still : s.ended ≡ None). absurd (cc);
+  unswallowed = a.unswallowed;
 }
 
--- the number that a step's reply names, and whether it acknowledges the hello
-abbrev pub number_at : Step → ℕ
-number_at (hears heard_line moment) = named_in heard_line
-number_at (ticks moment) = 0
-number_at (issues text) = 0
-number_at (gives moment) = 0
+gives_accounts : (moment : ℕ) (s : SenderData) (c : Account) → IsSound s → NoneEarly s → s.numbered ≡ true → Accounted c s →
+    Accounted (after_traffic (traffic_at (gives moment) s) c) (after_step (gives moment) s)
+gives_accounts moment s c sound early named a = record {
+  below = grind (arith, common_steps);
+  hellos = grind (arith, common_steps);
+  begun = grind (arith, common_steps);
+  acked = grind (arith, common_steps);
+  unswallowed = grind (arith, common_steps);
+}
 
-abbrev pub greets_at : Step → Bool
-greets_at (hears heard_line moment) = is_greeting_ok heard_line
-greets_at (ticks moment) = false
-greets_at (issues text) = false
-greets_at (gives moment) = false
+pub step_accounts : (step : Step) (s : SenderData) (c : Account) → IsSound s → NoneEarly s → s.numbered ≡ true → Accounted c s →
+    Accounted (after_traffic (traffic_at step s) c) (after_step step s)
+step_accounts (hears heard_line moment) s c sound early named a =
+    ended_accounts s.ended (name_in heard_line) (heard_reply heard_line moment s) s c refl a (λ none_yet. reply_accounts heard_line moment s c named none_yet a)
+step_accounts (ticks moment) s c sound early named a = grind (arith, common_steps)
+step_accounts (issues text) s c sound early named a = record { below = a.below; hellos = a.hellos; begun = a.begun; acked = a.acked; unswallowed = a.unswallowed }
+step_accounts (gives moment) s c sound early named a = gives_accounts moment s c sound early named a
 
-step_names : (step : Step) (s : SenderData) → s.numbered ≡ true → Names (number_at step) (greets_at step) (IsNamedLate step s) s (after_step step s)
-step_names (hears heard_line moment) s named =
-    unless_ended_names s.ended _ _ _ (heard_reply heard_line moment s) s refl (λ none_yet. reply_names heard_line moment s named none_yet)
-step_names (ticks moment) s named = grind (arith, common_steps)
-step_names (issues text) s named = grind (arith, common_steps)
-step_names (gives moment) s named = grind (arith, common_steps)
-
--- the replies of a list are those of its first step and of the others
-first_number : (step : Step) (steps : List Step) → most_named (replies_of (step ∷ steps)) ≡ max (number_at step) (most_named (replies_of steps))
-first_number (hears heard_line moment) steps = refl
-first_number (ticks moment) steps = omega arith
-first_number (issues text) steps = omega arith
-first_number (gives moment) steps = omega arith
-
-first_greets : (step : Step) (steps : List Step) → list_any is_greeting_ok (replies_of (step ∷ steps)) ≡ (greets_at step || list_any is_greeting_ok (replies_of steps))
-first_greets (hears heard_line moment) steps = refl
-first_greets (ticks moment) steps = refl
-first_greets (issues text) steps = refl
-first_greets (gives moment) steps = refl
-
-or_later : (first rest before : Bool) → (rest || (first || before)) ≡ ((first || rest) || before)
-or_later true true before = refl
-or_later true false before = refl
-or_later false true before = refl
-or_later false false before = refl
-
-or_false : (b : Bool) → (b || false) ≡ b
-or_false true = refl
-or_false false = refl
+-- the sender of a session without an early line stays one
+pub step_none_early : (step : Step) (s : SenderData) → IsAfterHello step s → NoneEarly s → NoneEarly (after_step step s)
+step_none_early (hears heard_line moment) s after early = grind (arith, common_steps)
+step_none_early (ticks moment) s after early = grind (arith, common_steps)
+step_none_early (issues text) s after early = λ (unready : s.ready ≡ false). absurd (cc)
+step_none_early (gives moment) s after early = grind (arith, common_steps)
 
 -- the same of steps from any state
-record NamedTally (steps : List Step) (s : SenderData) : Type 0 where
-  unswallowed : s.swallow ≡ false → (after_steps steps s).swallow ≡ false
-  most : (after_steps steps s).acked ≤ max s.acked (place_of (most_named (replies_of steps)))
-  exact : (after_steps steps s).ended ≡ None → AreNamedLate steps s → (after_steps steps s).acked ≡ max s.acked (place_of (most_named (replies_of steps)))
-  open_before : (after_steps steps s).ended ≡ None → s.ended ≡ None
-  readies : (after_steps steps s).ended ≡ None → (after_steps steps s).ready ≡ (list_any is_greeting_ok (replies_of steps) || s.ready)
+pub steps_account : (steps : List Step) (s : SenderData) (c : Account) → IsSound s → NoneEarly s → s.numbered ≡ true → AreAllowed steps s →
+    AreAfterHello steps s → Accounted c s →
+    Accounted (after_traffic (traffic_of steps s) c) (after_steps steps s)
+steps_account [] s c sound early named allowed after a = a
+steps_account (step ∷ steps) s c sound early named allowed after a =
+    let A : Account → Type 0 = λ d. Accounted d (after_steps steps (after_step step s)) in
+    subst A (sym (after_traffic-append (traffic_at step s) (traffic_of steps (after_step step s)) c))
+    (steps_account steps (after_step step s) (after_traffic (traffic_at step s) c) (step_sound step s allowed.0 sound)
+    (step_none_early step s after.0 early) (keeps_kind step s ∙ named) allowed.1 after.1 (step_accounts step s c sound early named a))
 
-more_named : (step : Step) (steps : List Step) (s : SenderData) → Names (number_at step) (greets_at step) (IsNamedLate step s) s (after_step step s) →
-    NamedTally steps (after_step step s) → NamedTally (step ∷ steps) s
-more_named step steps s names rest = record {
-  unswallowed = λ before. rest.unswallowed (names.unswallowed before);
-  most = omega (arith, rest.most, names.most, first_number step steps);
-  exact = λ open_still late. omega (arith, rest.exact open_still late.1, names.exact (rest.open_before open_still) late.0, first_number step steps);
-  open_before = λ open_still. names.open_before (rest.open_before open_still);
-  readies = λ open_still.
-      let more : Bool = list_any is_greeting_ok (replies_of steps) in
-      rest.readies open_still ∙ ap (λ (b : Bool). more || b) (names.readies (rest.open_before open_still)) ∙ or_later (greets_at step) more s.ready
-      ∙ ap (λ (b : Bool). b || s.ready) (sym (first_greets step steps));
-}
-
-steps_named : (steps : List Step) (s : SenderData) → s.numbered ≡ true → NamedTally steps s
-steps_named [] s named = record { unswallowed = λ before. before; most = omega arith; exact = λ _ _. omega arith; open_before = λ e. e; readies = λ _. refl }
-steps_named (step ∷ steps) s named = more_named step steps s (step_names step s named) (steps_named steps (after_step step s) (keeps_kind step s ∙ named))
+-- the account of a session
+session_account : (steps : List Step) (s : SenderData) → IsSound s → s.numbered ≡ true → AreAllowed steps (sender_after_dial s) →
+    AreAfterHello steps (sender_after_dial s) →
+    Accounted (after_traffic (traffic_of steps (sender_after_dial s)) (record { hellos = 0; begun = false; acked = 0 })) (after_steps steps (sender_after_dial s))
+session_account steps s sound named allowed after =
+    steps_account steps (sender_after_dial s) (record { hellos = 0; begun = false; acked = 0 }) (begun_sound s sound) (λ _. refl) named allowed after
+    (record { below = omega arith; hellos = λ _. refl; begun = λ _. refl; acked = λ _. refl; unswallowed = refl })
 
 pub acked_is_named : AckedIsNamed
-acked_is_named steps s named =
-    let tally = steps_named steps (sender_after_dial s) named in
-    (omega (arith, tally.most), λ open_still late. omega (arith, tally.exact open_still late))
+acked_is_named steps s sound named allowed after =
+    let account = session_account steps s sound named allowed after in
+    (account.below, account.acked)
 
 pub flags_are_named : FlagsAreNamed
-flags_are_named steps s named open_still =
-    let tally = steps_named steps (sender_after_dial s) named in
-    (tally.unswallowed refl, tally.readies open_still ∙ or_false (list_any is_greeting_ok (replies_of steps)))
+flags_are_named steps s sound named allowed after open_still =
+    let account = session_account steps s sound named allowed after in
+    (account.unswallowed, account.hellos open_still, account.begun open_still)

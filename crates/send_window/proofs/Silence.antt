@@ -10,8 +10,8 @@ use Rattle.send_window.specs.declared.session_end.SessionEnd.TheVariants.{NoAnsw
 use Rattle.send_window.specs.Data.{SenderData, IsSound, sender_after_dial}
 use Rattle.send_window.specs.Hearing.{hear_step, tick_step}
 use Rattle.send_window.specs.Sending.{Outgoing, next_of, push_step, frame_step}
-use Rattle.send_window.specs.Session.{Step, hears, ticks, issues, gives, after_step, after_steps, AreAllowed, replies_of}
-use Rattle.send_window.specs.Counting.{Traffic, sent, received, is_sent, sent_since, received_of, traffic_at, traffic_of, IsInTurn, AreInTurn, IsQuiet, OwesLine, IsSilent, IsUnbegun}
+use Rattle.send_window.specs.Session.{Step, hears, ticks, issues, gives, after_step, after_steps, AreAllowed, AreAfterHello, replies_of}
+use Rattle.send_window.specs.Counting.{Traffic, sent, received, is_sent, sent_since, received_of, traffic_at, traffic_of, IsInTurn, AreInTurn, IsQuiet, OwesLine, IsSilent, IsUnbegun, own_oks}
 use Rattle.send_window.specs.Laws.{SendsInSilence, EndsInSilence}
 use Rattle.send_window.proofs.Soundness.{begun_sound, step_sound}
 use Rattle.send_window.proofs.Ending.{tick_ends}
@@ -104,25 +104,29 @@ pub silent_once_ready : (s : SenderData) → (s.heard ≡ false) ⊎ (s.ready �
 silent_once_ready s (inl unheard_still) is = unheard_still
 silent_once_ready s (inr unready) is = absurd (cc)
 
--- before the session is ready the replies don't acknowledge the hello
-unbegun_by : (by_number : Bool) (steps : List Step) (s : SenderData) → s.numbered ≡ by_number → (after_steps steps (sender_after_dial s)).ended ≡ None →
-    (after_steps steps (sender_after_dial s)).ready ≡ false → IsUnbegun by_number (replies_of steps)
-unbegun_by false steps s kind open_still unready = none_of _ _ unready (flags_are_counted steps s kind open_still).1.1
+-- before the session is ready lines and replies don't acknowledge the hello
+unbegun_by : (by_number : Bool) (steps : List Step) (s : SenderData) → IsSound s → s.numbered ≡ by_number → AreAllowed steps (sender_after_dial s) →
+    AreAfterHello steps (sender_after_dial s) →
+    (after_steps steps (sender_after_dial s)).ended ≡ None → (after_steps steps (sender_after_dial s)).ready ≡ false →
+    IsUnbegun by_number (traffic_of steps (sender_after_dial s))
+unbegun_by false steps s sound kind allowed after open_still unready =
+    let P : List Reply → Type 0 = λ replies. own_oks reply.Start replies ≡ 0 in
+    subst P (sym (received_steps steps (sender_after_dial s))) (none_of _ _ unready (flags_are_counted steps s kind open_still).1.1)
   where
     none_of : (b : Bool) (n : ℕ) → b ≡ false → (1 ≤ n → b ≡ true) → n ≡ 0
     none_of true n e f = absurd (cc)
     none_of false zero e f = refl
     none_of false (suc n) e f = let h : false ≡ true = f (omega arith) in absurd (cc)
-unbegun_by true steps s kind open_still unready = sym (flags_are_named steps s kind open_still).1 ∙ unready
+unbegun_by true steps s sound kind allowed after open_still unready = sym (flags_are_named steps s sound kind allowed after open_still).2 ∙ unready
 
-silent_by : (ready : Bool) (steps : List Step) (s : SenderData) (moment count : ℕ) → IsSound s → AreAllowed steps (sender_after_dial s) → AreInTurn steps (sender_after_dial s) →
+silent_by : (ready : Bool) (steps : List Step) (s : SenderData) (moment count : ℕ) → IsSound s → AreAllowed steps (sender_after_dial s) →
+    AreAfterHello steps (sender_after_dial s) → AreInTurn steps (sender_after_dial s) →
     IsInTurn (ticks moment) (after_steps steps (sender_after_dial s)) → (after_steps steps (sender_after_dial s)).ended ≡ None →
     (tick_step moment (after_steps steps (sender_after_dial s))).ended ≡ Some (NoAnswer count) → (after_steps steps (sender_after_dial s)).ready ≡ ready →
     IsSilent s.numbered (traffic_of steps (sender_after_dial s))
-silent_by false steps s moment count sound allowed in_turn last_in_turn open_still ends unready =
-    let P : List Reply → Type 0 = λ replies. IsUnbegun s.numbered replies in
-    inl (subst P (sym (received_steps steps (sender_after_dial s))) (unbegun_by s.numbered steps s refl open_still unready))
-silent_by true steps s moment count sound allowed in_turn last_in_turn open_still ends is_ready =
+silent_by false steps s moment count sound allowed after in_turn last_in_turn open_still ends unready =
+    inl (unbegun_by s.numbered steps s sound refl allowed after open_still unready)
+silent_by true steps s moment count sound allowed after in_turn last_in_turn open_still ends is_ready =
     let owed : Owed ([] ++ traffic_of steps (sender_after_dial s)) (after_steps steps (sender_after_dial s)) =
     steps_owed steps [] (sender_after_dial s) allowed in_turn (record { sound = begun_sound s sound; owes = record { one_more = λ _ _ _. omega arith; unsent = λ _ _ _ more. absurd (omega arith) } }) in
     let before = after_steps steps (sender_after_dial s) in
@@ -131,5 +135,5 @@ silent_by true steps s moment count sound allowed in_turn last_in_turn open_stil
     inr (omega (arith, quiet.sent_enough open_still is_ready (silent_once_ready before rule.1 is_ready), rule.2))
 
 pub ends_in_silence : EndsInSilence
-ends_in_silence steps s moment count sound allowed in_turn last_in_turn open_still ends =
-    silent_by _ steps s moment count sound allowed in_turn last_in_turn open_still ends refl
+ends_in_silence steps s moment count sound allowed after in_turn last_in_turn open_still ends =
+    silent_by _ steps s moment count sound allowed after in_turn last_in_turn open_still ends refl

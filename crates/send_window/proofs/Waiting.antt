@@ -22,6 +22,11 @@ later_more : (start moment span silent wanted : ℕ) → later start ((silent + 
 unfolding later
 later_more start moment span silent wanted passed due = omega arith
 
+-- several limits are no shorter than one
+later_longer : (moment count span : ℕ) → later moment span ≤ later moment ((count + 1) * span)
+unfolding later
+later_longer moment count span = omega arith
+
 -- the first limit passes no later than one more
 later_first : (start span told : ℕ) → later start ((0 + 1) * span) ≤ later start ((told + 1) * span)
 unfolding later
@@ -58,8 +63,8 @@ unless_ended_waits start (Some why) after s then_waits waits = waits
 
 tick_waits : (start moment : ℕ) (s : SenderData) → start ≤ moment → WaitsSince start s → WaitsSince start (tick_step moment s)
 tick_waits start moment s since waits = record {
-  long_enough = λ wanted open_still set. let one = later_one start moment s.limit since in grind (arith, common_steps, one, later_more, waits.long_enough);
-  told_enough = λ wanted open_still set. let one = later_one start moment s.limit since in grind (arith, common_steps, one, later_more, waits.told_enough);
+  long_enough = λ wanted open_still set. let one = later_one start moment s.limit since in grind (arith, common_steps, one, later_more, later_longer, waits.long_enough);
+  told_enough = λ wanted open_still set. let one = later_one start moment s.limit since in grind (arith, common_steps, one, later_more, later_longer, waits.told_enough);
 }
 
 give_waits : (start moment : ℕ) (s : SenderData) → IsSound s → start ≤ moment → WaitsSince start s → WaitsSince start (after_step (gives moment) s)

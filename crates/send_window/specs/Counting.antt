@@ -1,6 +1,6 @@
--- What a list of replies alone says of a session.
-use Rattle.std.specs.Prelude.{◌≡◌, ◌⊎◌, ℕ, ◌+◌, ◌-◌, ◌<◌, ◌≤◌, ◌==◌, max, Bool, true, false, not, ◌&&◌, ◌||◌, List, [], ◌∷◌, ◌++◌, filter, count_by, zip, reverse, None, is_some, unwrap_or, if◌then◌else◌}
-use Rattle.std.specs.List.{prefix_len, list_any}
+-- What a session's lines and replies alone say of it.
+use Rattle.std.specs.Prelude.{◌≡◌, ◌⊎◌, ℕ, ◌+◌, ◌-◌, ◌<◌, ◌≤◌, ◌==◌, max, Bool, true, false, not, ◌&&◌, ◌||◌, List, [], ◌∷◌, ◌++◌, filter, count_by, zip, reverse, Option, None, Some, is_some, if◌then◌else◌}
+use Rattle.std.specs.List.{prefix_len}
 use Rattle.marlin_frame.specs.Numbering.{place_of}
 use Rattle.marlin_reply.specs.declared.reply.Reply.{Reply}
 use Rattle.marlin_reply.specs.declared.reply.Reply.TheVariants as reply
@@ -48,40 +48,15 @@ own_oks first replies = count_by is_own_ok (with_former first (answers_of replie
 abbrev pub acked_of : List Reply → ℕ
 acked_of replies = own_oks reply.Start replies - 1
 
--- the number that a reply names as an `ok`, 0 if it names none
-abbrev pub named_in : Reply → ℕ
-named_in (reply.Ok number _ _ _) = unwrap_or number 0
-named_in (reply.Resend _) = 0
-named_in reply.Start = 0
-named_in reply.Busy = 0
-named_in (reply.Temps _) = 0
-named_in reply.Error = 0
-named_in reply.Other = 0
-
--- the greatest number that the `ok`s among the replies name
-abbrev pub most_named : List Reply → ℕ
-most_named [] = 0
-most_named (heard_line ∷ replies) = max (named_in heard_line) (most_named replies)
-
--- how many lines the replies of a session acknowledge, by whether an `ok` counts only by the number that it names
-abbrev pub acked_as : Bool → List Reply → ℕ
-acked_as false replies = acked_of replies
-acked_as true replies = place_of (most_named replies)
-
--- whether a reply is an `ok` that names the hello
-abbrev pub is_greeting_ok : Reply → Bool
-is_greeting_ok (reply.Ok number _ _ _) = is_some number && unwrap_or number 1 == 0
-is_greeting_ok (reply.Resend _) = false
-is_greeting_ok reply.Start = false
-is_greeting_ok reply.Busy = false
-is_greeting_ok (reply.Temps _) = false
-is_greeting_ok reply.Error = false
-is_greeting_ok reply.Other = false
-
--- the replies don't acknowledge the hello, by whether an `ok` counts only by the number that it names
-abbrev pub IsUnbegun : Bool → List Reply → Type 0
-IsUnbegun false replies = own_oks reply.Start replies ≡ 0
-IsUnbegun true replies = list_any is_greeting_ok replies ≡ false
+-- the number that a reply names, if it is an `ok` that names one
+abbrev pub name_in : Reply → Option ℕ
+name_in (reply.Ok number _ _ _) = number
+name_in (reply.Resend _) = None
+name_in reply.Start = None
+name_in reply.Busy = None
+name_in (reply.Temps _) = None
+name_in reply.Error = None
+name_in reply.Other = None
 
 -- the last of a list of replies, given what is before the first
 abbrev pub last_of : Reply → List Reply → Reply
@@ -103,6 +78,44 @@ received_of [] = []
 received_of (sent ∷ traffic) = received_of traffic
 received_of (received heard_line ∷ traffic) = heard_line ∷ received_of traffic
 
+-- what the names of `ok`s say of a session: how many hellos were sent, whether the last of them has its `ok`, and how many
+-- lines are acknowledged
+pub record Account : Type 0 where
+  pub hellos : ℕ
+  pub begun : Bool
+  pub acked : ℕ
+
+-- one more `ok`: it begins the session if it names the last hello that was sent, and then acknowledges all through its line
+abbrev pub with_name : Option ℕ → Account → Account
+with_name None c = c
+with_name (Some number) c =
+    if c.begun then record c { acked = max c.acked (place_of number) }
+    else record c { begun = number + 1 == c.hellos }
+
+-- one more line or reply: until the session has begun each line is a hello
+abbrev pub with_traffic : Traffic → Account → Account
+with_traffic sent c = if c.begun then c else record c { hellos = c.hellos + 1 }
+with_traffic (received heard_line) c = with_name (name_in heard_line) c
+
+-- more of them
+abbrev pub after_traffic : List Traffic → Account → Account
+after_traffic [] c = c
+after_traffic (item ∷ traffic) c = after_traffic traffic (with_traffic item c)
+
+-- the account of a session
+abbrev pub account_of : List Traffic → Account
+account_of traffic = after_traffic traffic (record { hellos = 0; begun = false; acked = 0 })
+
+-- how many lines a session's lines and replies acknowledge, by whether an `ok` counts only by the number that it names
+abbrev pub acked_as : Bool → List Traffic → ℕ
+acked_as false traffic = acked_of (received_of traffic)
+acked_as true traffic = (account_of traffic).acked
+
+-- they don't acknowledge the hello, by whether an `ok` counts only by the number that it names
+abbrev pub IsUnbegun : Bool → List Traffic → Type 0
+IsUnbegun false traffic = own_oks reply.Start (received_of traffic) ≡ 0
+IsUnbegun true traffic = (account_of traffic).begun ≡ false
+
 -- whether it is a line that was sent
 abbrev pub is_sent : Traffic → Bool
 is_sent sent = true
@@ -114,7 +127,7 @@ sent_since traffic = prefix_len is_sent (reverse traffic)
 
 -- the printer is silent: the hello has no `ok`, or at least four lines were sent since anything was received
 abbrev pub IsSilent : Bool → List Traffic → Type 0
-IsSilent numbered traffic = IsUnbegun numbered (received_of traffic) ⊎ (4 ≤ sent_since traffic)
+IsSilent numbered traffic = IsUnbegun numbered traffic ⊎ (4 ≤ sent_since traffic)
 
 -- what goes over the line in a step of a sender
 abbrev pub traffic_at : Step → SenderData → List Traffic
@@ -161,15 +174,3 @@ IsAwaited (gives moment) s = Unit {0}
 abbrev pub AreAwaited : List Step → SenderData → Type 0
 AreAwaited [] s = Unit {0}
 AreAwaited (step ∷ steps) s = IsAwaited step s × AreAwaited steps (after_step step s)
-
--- an `ok` that names a line comes only once the session is ready
-abbrev pub IsNamedLate : Step → SenderData → Type 0
-IsNamedLate (hears heard_line moment) s = s.ready ≡ false → named_in heard_line ≡ 0
-IsNamedLate (ticks moment) s = Unit {0}
-IsNamedLate (issues text) s = Unit {0}
-IsNamedLate (gives moment) s = Unit {0}
-
--- each of them does
-abbrev pub AreNamedLate : List Step → SenderData → Type 0
-AreNamedLate [] s = Unit {0}
-AreNamedLate (step ∷ steps) s = IsNamedLate step s × AreNamedLate steps (after_step step s)

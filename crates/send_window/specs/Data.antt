@@ -6,6 +6,14 @@ use Rattle.send_window.specs.declared.session_end.SessionEnd.{SessionEnd}
 abbrev pub most_lines : ℕ
 most_lines = 1999999999
 
+-- the most hellos of a session, if each has a number of its own
+abbrev pub most_hellos : ℕ
+most_hellos = 10
+
+-- the most lines that may be unacknowledged, without one that stops the printer
+abbrev pub most_open : ℕ
+most_open = 16
+
 -- the number of limits in a row in silence, or before the `ok` of the hello, that ends a session
 abbrev pub most_silent : ℕ
 most_silent = 5
@@ -47,6 +55,11 @@ pub record SenderData : Type 0 where
   pub asked_anew : Bool
   -- in how many limits in a row the printer asked for the line after the last issued one
   pub told : ℕ
+  -- how many lines more than the window may be unacknowledged, and that a limit has passed since a Resend last said what the printer has
+  pub extra : ℕ
+  pub doubts : Bool
+  -- how many hellos were sent, if each has a number of its own: the number of the next one
+  pub hellos : ℕ
   -- the hello is to be sent
   pub hello_due : Bool
   -- the hello was acknowledged
@@ -73,6 +86,9 @@ new_sender w by_number l = record {
   silent = 0;
   asked_anew = false;
   told = 0;
+  extra = 0;
+  doubts = false;
+  hellos = 0;
   hello_due = false;
   ready = false;
   ended = None;
@@ -86,13 +102,18 @@ sender_after_dial s = record (new_sender s.window s.numbered s.limit) { hello_du
 pub record IsSound (s : SenderData) : Type 0 where
   -- the window is 1 to 16 lines, the limit a millisecond at least
   pub open_window : 1 ≤ s.window
-  pub small_window : s.window ≤ 16
+  pub small_window : s.window ≤ most_open
   pub some_limit : 1 ≤ s.limit
   -- an `ok` that counts by its number is never passed over
   pub unswallowed : s.numbered ≡ true → s.swallow ≡ false
-  -- the lines held are as many as were issued above acked, and the window holds all but one that stops the printer
+  -- the lines held are as many as were issued above acked, and the window holds all but one that stops the printer; if `ok`s count by
+  -- their numbers, it may hold more while one was lost, 16 in all
   pub counted : s.acked + length s.held ≡ s.issued
-  pub in_window : length s.held ≤ s.window + 1
+  pub in_window : s.numbered ≡ false → length s.held ≤ s.window + 1
+  pub few_held : length s.held ≤ most_open + 1
+  pub few_extra : s.window + s.extra ≤ most_open
+  pub no_extra : s.numbered ≡ false → s.extra ≡ 0
+  pub no_doubts : s.numbered ≡ false → s.doubts ≡ false
   pub few : s.issued ≤ most_lines
   -- the cursor is above acked, and at most one past the last line
   pub above_acked : s.acked + 1 ≤ s.cursor
@@ -100,12 +121,17 @@ pub record IsSound (s : SenderData) : Type 0 where
   -- a line is sent only once it was issued, and no more Resends are ignored than lines were sent
   pub sent_issued : s.sent ≤ s.issued
   pub left_sent : s.left ≤ s.sent
-  -- lines are issued only after the hello's `ok`, and the hello isn't sent after it
-  pub hello_first : s.ready ≡ false → s.issued ≡ 0
+  -- before the hello's `ok` at most one line is issued, and none acknowledged; and the hello isn't sent after it
+  pub one_early : s.ready ≡ false → s.issued ≤ 1
+  pub none_acked : s.ready ≡ false → s.acked ≡ 0
   pub hello_before : s.ready ≡ true → s.hello_due ≡ false
-  -- no answer is waited for if all lines are acknowledged, or if the hello is still to be sent
+  -- no answer is waited for if all lines are acknowledged, or, if `ok`s are counted, if the hello is still to be sent
   pub none_awaited : s.ready ≡ true → s.acked ≡ s.issued → s.deadline ≡ None
-  pub hello_unsent : s.hello_due ≡ true → s.deadline ≡ None
+  pub hello_unsent : s.numbered ≡ false → s.hello_due ≡ true → s.deadline ≡ None
+  -- a hello that is to be sent has a number left; if `ok`s are counted, each has the number 0
+  pub hello_left : s.hello_due ≡ true → s.hellos < most_hellos
+  pub few_hellos : s.hellos ≤ most_hellos
+  pub one_number : s.numbered ≡ false → s.hellos ≡ 0
   -- a session that goes on has had fewer silent limits, and none is counted if no answer is waited for
   pub silent_most : s.silent ≤ most_silent
   pub silent_few : s.ended ≡ None → s.silent < most_silent
@@ -116,3 +142,7 @@ pub record IsSound (s : SenderData) : Type 0 where
   pub told_none : s.deadline ≡ None → s.told ≡ 0
   pub told_unready : s.ready ≡ false → s.told ≡ 0
   pub anew_unready : s.ready ≡ false → s.asked_anew ≡ false
+
+-- no line was issued before the `ok` of the hello
+abbrev pub NoneEarly : SenderData → Type 0
+NoneEarly s = s.ready ≡ false → s.issued ≡ 0

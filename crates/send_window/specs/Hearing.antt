@@ -1,12 +1,12 @@
 -- What a sender does with a reply and at a tick of the clock.
-use Rattle.std.specs.Prelude.{ℕ, ◌+◌, ◌-◌, min, max, Bool, true, false, not, ◌&&◌, drop, Option, None, Some, Result, Ok, Err, if◌then◌else◌, nat_lt, nat_le, ◌==◌}
+use Rattle.std.specs.Prelude.{ℕ, ◌+◌, ◌-◌, min, max, Bool, true, false, not, ◌&&◌, ◌||◌, drop, Option, None, Some, Result, Ok, Err, if◌then◌else◌, nat_lt, nat_le, ◌==◌, ◌*◌}
 use Rattle.byte_text.specs.Number.{most_u64}
 use Rattle.marlin_reply.specs.declared.reply.Reply.{Reply}
 use Rattle.marlin_reply.specs.declared.reply.Reply.TheVariants as reply
 use Rattle.send_window.specs.declared.session_end.SessionEnd.{SessionEnd}
 use Rattle.send_window.specs.declared.session_end.SessionEnd.TheVariants.{NoAnswer, AskedBack, AskedAhead, Counts, Restarted, LostOk, NumbersUsed}
 use Rattle.marlin_frame.specs.Numbering.{wire_number, place_of}
-use Rattle.send_window.specs.Data.{SenderData, most_lines, most_silent, most_told}
+use Rattle.send_window.specs.Data.{SenderData, most_lines, most_hellos, most_open, most_silent, most_told}
 
 -- the greatest moment
 abbrev pub last_moment : ℕ
@@ -92,6 +92,7 @@ acknowledged_to place moment s = record s {
   heard = false;
   asked_anew = false;
   told = 0;
+  extra = 0;
   ended = end_of_numbers place s.issued;
 }
 
@@ -101,10 +102,11 @@ place_ok number moment s =
     if nat_lt (wire_number s.issued) number then ended_by (Counts number (wire_number (s.acked + 1))) s
     else (if nat_lt (wire_number s.acked) number then acknowledged_to (place_of number) moment s else after_hearing s)
 
--- an `ok` that counts only by the number that it names, by whether the session is ready; the hello's names 0
+-- an `ok` that counts only by the number that it names, by whether the session is ready: before, only the one of the last hello
+-- that was sent counts, since no hello is behind it
 abbrev pub ok_named : Bool → Option ℕ → ℕ → SenderData → SenderData
 ok_named ready None moment s = after_hearing s
-ok_named false (Some number) moment s = if number == 0 then made_ready s else after_hearing s
+ok_named false (Some number) moment s = if number + 1 == s.hellos then made_ready s else after_hearing s
 ok_named true (Some number) moment s = place_ok number moment s
 
 -- an `ok`, by whether it counts only by its number
@@ -112,19 +114,41 @@ abbrev pub ok_in : Bool → Option ℕ → ℕ → SenderData → SenderData
 ok_in false number moment s = heard_ok s.swallow s.ready number moment s
 ok_in true number moment s = ok_named s.ready number moment s
 
--- a Resend of the hello
-abbrev pub hello_asked : ℕ → SenderData → SenderData
-hello_asked moment s = record s {
-  swallow = not s.numbered;
+-- a Resend of the hello, if each has the number 0
+abbrev pub hello_asked : SenderData → SenderData
+hello_asked s = record s {
+  swallow = true;
   hello_due = true;
-  deadline = deadline_at moment s.limit s.acked s.issued;
+  deadline = None;
   silent = 0;
   heard = false;
 }
 
+-- another hello is due, if one has a number left
+abbrev pub another_hello : SenderData → SenderData
+another_hello s = record s { hello_due = nat_lt s.hellos most_hellos; heard = true }
+
+-- a Resend of the hello, by whether each hello has a number of its own
+abbrev pub hello_resent : Bool → ℕ → SenderData → SenderData
+hello_resent false moment s = hello_asked s
+hello_resent true moment s = another_hello s
+
 -- a Resend is one of those to ignore: each line that was sent after a lost one brings the same again
 abbrev pub is_repeated : ℕ → SenderData → Bool
 is_repeated place s = place == s.asked && nat_lt 0 s.left
+
+-- whether a Resend says that the printer has all issued lines
+abbrev pub has_all : ℕ → SenderData → Bool
+has_all place s = place == s.issued + 1
+
+-- whether lines are unacknowledged that fill the window, and one more may be
+abbrev pub may_widen : SenderData → Bool
+may_widen s = nat_lt s.acked s.issued && (nat_le (s.window + s.extra) (s.issued - s.acked) && nat_lt (s.window + s.extra) most_open)
+
+-- how many more lines than the window may be unacknowledged after such a Resend: after a limit one more, since the printer has lines whose
+-- `ok` was lost, which the next line's makes good
+abbrev pub extra_after : ℕ → SenderData → ℕ
+extra_after place s = if has_all place s && (s.doubts && may_widen s) then s.extra + 1 else s.extra
 
 -- a Resend of a line that may be asked for
 abbrev pub line_asked : ℕ → ℕ → SenderData → SenderData
@@ -133,6 +157,8 @@ line_asked place moment s = record s {
   cursor = if is_repeated place s then s.cursor else place;
   asked = place;
   left = if is_repeated place s then s.left - 1 else s.sent - place;
+  extra = extra_after place s;
+  doubts = s.doubts && not (has_all place s);
   deadline = renewed s.deadline (deadline_at moment s.limit s.acked s.issued);
   silent = 0;
   heard = false;
@@ -150,7 +176,7 @@ resend_asked number moment s =
 
 -- a Resend, by whether the session is ready
 abbrev pub heard_resend : Bool → ℕ → ℕ → SenderData → SenderData
-heard_resend false number moment s = hello_asked moment s
+heard_resend false number moment s = hello_resent s.numbered moment s
 heard_resend true number moment s = resend_asked number moment s
 
 -- the printer began anew, by whether the session is ready
@@ -190,6 +216,18 @@ silent_limits s = if s.heard && s.ready then 0 else s.silent + 1
 abbrev pub told_limits : SenderData → ℕ
 told_limits s = if s.asked_anew && s.asked == s.issued + 1 then s.told + 1 else 0
 
+-- the hello has no `ok` yet, and each has a number of its own
+abbrev pub is_greeting : SenderData → Bool
+is_greeting s = s.numbered && not s.ready
+
+-- whether a hello is to be sent after a limit: another one, if each has a number of its own and one is left
+abbrev pub due_again : SenderData → Bool
+due_again s = if is_greeting s then nat_lt s.hellos most_hellos else s.hello_due
+
+-- how long the next answer may take after this count of silent limits: such a hello's as many limits more
+abbrev pub wait_after : ℕ → SenderData → ℕ
+wait_after count s = if is_greeting s then (count + 1) * s.limit else s.limit
+
 -- a limit passed: at the fifth that counts the session ends, else all that is unacknowledged is sent again
 abbrev pub limit_passed : ℕ → SenderData → SenderData
 limit_passed moment s =
@@ -203,8 +241,10 @@ limit_passed moment s =
       told = told_limits s;
       cursor = if s.ready then s.acked + 1 else s.cursor;
       left = if s.ready then 0 else s.left;
+      doubts = s.doubts || (s.numbered && s.ready);
+      hello_due = due_again s;
       heard = false;
-      deadline = Some (later moment s.limit);
+      deadline = Some (later moment (wait_after (silent_limits s) s));
     }
 
 -- a tick of the clock in a session that hasn't ended

@@ -1,6 +1,5 @@
 -- What the steps of a sender keep and bring, in the words of the protocol.
 use Rattle.std.specs.Prelude.{◌≡◌, ◌≢◌, ◌⊎◌, ◌↔◌, ℕ, ◌+◌, ◌-◌, ◌*◌, ◌<◌, ◌≤◌, Bool, true, false, not, ◌&&◌, List, [], ◌∷◌, ◌++◌, Option, None, Some, slice_get, is_some, ◌||◌, if◌then◌else◌}
-use Rattle.std.specs.List.{list_any}
 use Rattle.byte_text.specs.Sendable.{IsSendable}
 use Rattle.marlin_reply.specs.declared.reply.Reply.{Reply}
 use Rattle.marlin_reply.specs.declared.reply.Reply.TheVariants as reply
@@ -9,9 +8,9 @@ use Rattle.send_window.specs.declared.session_end.SessionEnd.TheVariants.{NoAnsw
 use Rattle.marlin_frame.specs.Numbering.{wire_number}
 use Rattle.send_window.specs.Data.{SenderData, IsSound, new_sender, sender_after_dial, most_lines, most_silent, most_told}
 use Rattle.send_window.specs.Hearing.{later, hear_step, tick_step, is_past, silent_limits}
-use Rattle.send_window.specs.Sending.{hello, line, next_of, last_room_of, push_step, frame_step, IsFramable}
-use Rattle.send_window.specs.Session.{Step, hears, ticks, issues, gives, after_step, after_steps, IsAllowed, AreAllowed, replies_of, texts_issued, HoldsIssued, IsSince, WaitsSince}
-use Rattle.send_window.specs.Counting.{is_ok, is_resend, is_pending, own_oks, acked_of, acked_as, is_greeting_ok, AreAwaited, AreNamedLate, IsInTurn, AreInTurn, traffic_of, IsSilent, IsQuiet, OwesLine}
+use Rattle.send_window.specs.Sending.{hello, line, next_of, room_of, last_room_of, push_step, frame_step, IsFramable}
+use Rattle.send_window.specs.Session.{Step, hears, ticks, issues, gives, after_step, after_steps, IsAllowed, AreAllowed, AreAfterHello, replies_of, texts_issued, HoldsIssued, IsSince, WaitsSince}
+use Rattle.send_window.specs.Counting.{is_ok, is_resend, is_pending, own_oks, acked_of, acked_as, account_of, AreAwaited, IsInTurn, AreInTurn, traffic_of, IsSilent, IsQuiet, OwesLine}
 
 -- a new sender is sound, a session begins so, and no step breaks it
 abbrev pub StaysSound : Type 0
@@ -27,18 +26,19 @@ HoldsLines =
     HoldsIssued texts s → HoldsIssued (texts ++ texts_issued (step ∷ [])) (after_step step s))
     × ((steps : List Step) (s : SenderData) → HoldsIssued (texts_issued steps) (after_steps steps (sender_after_dial s)))
 
--- a line to be sent is an issued one above acked, at its own place, and the session is ready
+-- a line to be sent is an issued one above acked, at its own place; if the session isn't ready, it is the first one
 pub record IsUnacknowledged (texts : List (List ℕ)) (s : SenderData) (place : ℕ) (text : List ℕ) : Type 0 where
   pub above_acked : s.acked < place
   pub was_issued : place ≤ s.issued
   pub its_text : slice_get texts (place - 1) ≡ Some text
-  pub after_hello : s.ready ≡ true
+  pub only_first : s.ready ≡ false → place ≡ 1
 
--- what goes out is the hello, before the session is ready, or an unacknowledged line
+-- what goes out is the hello, before the session is ready, or an unacknowledged line; the hello has the number 0 or, if
+-- `ok`s count by their numbers, the number of hellos before it
 abbrev pub GivesHeldLines : Type 0
 GivesHeldLines =
     (s : SenderData) (texts : List (List ℕ)) → IsSound s → HoldsIssued texts s →
-    (next_of s ≡ Some hello → s.ready ≡ false)
+    ((number : ℕ) → next_of s ≡ Some (hello number) → (s.ready ≡ false) × (number ≡ (if s.numbered then s.hellos else 0)))
     × ((place : ℕ) (text : List ℕ) → next_of s ≡ Some (line place text) → IsUnacknowledged texts s place text)
 
 -- nothing goes out exactly if the session has ended, or no hello is due and the cursor is past the last line
@@ -70,6 +70,14 @@ IsOkOf place (hears heard_line moment) = ok_number heard_line ≡ Some (Some (wi
 IsOkOf place (ticks moment) = ⊥
 IsOkOf place (issues text) = ⊥
 IsOkOf place (gives moment) = ⊥
+
+-- the step hears such a Resend
+abbrev pub IsRetold : Step → SenderData → Type 0
+IsRetold (hears heard_line moment) s =
+    (heard_line ≡ reply.Resend (wire_number (s.issued + 1))) × (s.doubts ≡ true) × (s.acked < s.issued) × (room_of s ≡ 0)
+IsRetold (ticks moment) s = ⊥
+IsRetold (issues text) s = ⊥
+IsRetold (gives moment) s = ⊥
 
 -- acked never falls. If `ok`s are counted, it rises by one at most, and only by one that isn't swallowed; if they count by
 -- their numbers, it rises only to an issued line that an `ok` names
@@ -171,14 +179,16 @@ AckedIsCounted =
     × ((after_steps steps (sender_after_dial s)).ended ≡ None → AreAwaited steps (sender_after_dial s) →
     (after_steps steps (sender_after_dial s)).acked ≡ acked_of (replies_of steps))
 
--- the same if `ok`s count by their numbers: acked is the last line that they name, if none named a line before the `ok`
--- of the hello
+-- the same if `ok`s count by their numbers and no line is issued before the `ok` of the hello: acked is at most what lines and replies
+-- say, and just that if the session hasn't ended
 abbrev pub AckedIsNamed : Type 0
 AckedIsNamed =
-    (steps : List Step) (s : SenderData) → s.numbered ≡ true →
-    ((after_steps steps (sender_after_dial s)).acked ≤ acked_as true (replies_of steps))
-    × ((after_steps steps (sender_after_dial s)).ended ≡ None → AreNamedLate steps (sender_after_dial s) →
-    (after_steps steps (sender_after_dial s)).acked ≡ acked_as true (replies_of steps))
+    (steps : List Step) (s : SenderData) → IsSound s → s.numbered ≡ true → AreAllowed steps (sender_after_dial s) →
+    AreAfterHello steps (sender_after_dial s) →
+    let traffic = traffic_of steps (sender_after_dial s) in
+    ((after_steps steps (sender_after_dial s)).acked ≤ acked_as true traffic)
+    × ((after_steps steps (sender_after_dial s)).ended ≡ None →
+    (after_steps steps (sender_after_dial s)).acked ≡ acked_as true traffic)
 
 -- one more reply counts if it is an `ok` and no Resend is pending; a Resend is pending from then on to the next `ok`
 abbrev pub CountsNext : Type 0
@@ -196,13 +206,16 @@ FlagsAreCounted =
     ((after_steps steps (sender_after_dial s)).swallow ≡ is_pending (replies_of steps))
     × (((after_steps steps (sender_after_dial s)).ready ≡ true) ↔ (1 ≤ own_oks reply.Start (replies_of steps)))
 
--- if `ok`s count by their numbers, no `ok` is ever passed over, and the session is ready from the first one that names
--- the hello
+-- if `ok`s count by their numbers, no `ok` is ever passed over; if no line is issued before the `ok` of the hello, each hello has its
+-- own number, and the session is ready from the `ok` of the last one on
 abbrev pub FlagsAreNamed : Type 0
 FlagsAreNamed =
-    (steps : List Step) (s : SenderData) → s.numbered ≡ true → (after_steps steps (sender_after_dial s)).ended ≡ None →
+    (steps : List Step) (s : SenderData) → IsSound s → s.numbered ≡ true → AreAllowed steps (sender_after_dial s) →
+    AreAfterHello steps (sender_after_dial s) → (after_steps steps (sender_after_dial s)).ended ≡ None →
+    let account = account_of (traffic_of steps (sender_after_dial s)) in
     ((after_steps steps (sender_after_dial s)).swallow ≡ false)
-    × ((after_steps steps (sender_after_dial s)).ready ≡ list_any is_greeting_ok (replies_of steps))
+    × ((after_steps steps (sender_after_dial s)).hellos ≡ account.hellos)
+    × ((after_steps steps (sender_after_dial s)).ready ≡ account.begun)
 
 -- how the steps of a turn keep what a silent limit owes: a tick may owe a line, and once nothing is unsent none is owed
 abbrev pub SendsInSilence : Type 0
@@ -215,11 +228,11 @@ SendsInSilence =
     × ((since : ℕ) (s : SenderData) → IsSound s → OwesLine since s → next_of s ≡ None → IsQuiet since s)
 
 -- a session ends with no answer only if the printer is silent by the replies and lines alone, if at each tick
--- nothing was unsent
+-- nothing was unsent, and no line is issued before the `ok` of the hello
 abbrev pub EndsInSilence : Type 0
 EndsInSilence =
     (steps : List Step) (s : SenderData) (moment count : ℕ) → IsSound s →
-    AreAllowed steps (sender_after_dial s) → AreInTurn steps (sender_after_dial s) →
+    AreAllowed steps (sender_after_dial s) → AreAfterHello steps (sender_after_dial s) → AreInTurn steps (sender_after_dial s) →
     let before = after_steps steps (sender_after_dial s) in
     IsInTurn (ticks moment) before → before.ended ≡ None →
     (tick_step moment before).ended ≡ Some (NoAnswer count) →
@@ -236,6 +249,15 @@ WaitsFiveLimits =
     (later start (most_silent * s.limit) ≤ moment) × ((s.ready ≡ false) ⊎ (s.acked < s.issued)))
     × ((start moment limits : ℕ) (s : SenderData) → IsSound s → WaitsSince start s → s.ended ≡ None → (tick_step moment s).ended ≡ Some (LostOk limits) →
     (later start (most_told * s.limit) ≤ moment) × (s.ready ≡ true) × (s.acked < s.issued))
+
+-- what may be unacknowledged beyond the window changes only so: an `ok` that acknowledges a line sets it back; it rises by one if a Resend
+-- says, for the first time since a limit passed, that the printer has all issued lines, one isn't acknowledged, and none may be issued
+abbrev pub ExtraIsGiven : Type 0
+ExtraIsGiven =
+    (step : Step) (s : SenderData) → IsSound s → (after_step step s).extra ≢ s.extra →
+    (s.numbered ≡ true)
+    × (((s.acked < (after_step step s).acked) × ((after_step step s).extra ≡ 0))
+    ⊎ (IsRetold step s × ((after_step step s).extra ≡ s.extra + 1) × ((after_step step s).doubts ≡ false)))
 
 -- a text that may be sent is one that a frame can carry
 abbrev pub CarriesSendable : Type 0

@@ -1,5 +1,5 @@
 -- What happens to a sender in a session, step by step.
-use Rattle.std.specs.Prelude.{◌≡◌, ℕ, ◌+◌, ◌*◌, ◌≤◌, ◌<◌, List, [], ◌∷◌, length, drop, None, Some}
+use Rattle.std.specs.Prelude.{◌≡◌, ℕ, ◌+◌, ◌*◌, ◌≤◌, ◌<◌, true, List, [], ◌∷◌, length, drop, None, Some}
 use Rattle.marlin_reply.specs.declared.reply.Reply.{Reply}
 use Rattle.send_window.specs.Data.{SenderData}
 use Rattle.send_window.specs.Hearing.{later, hear_step, tick_step}
@@ -35,6 +35,18 @@ IsAllowed (gives moment) s = Unit {0}
 abbrev pub AreAllowed : List Step → SenderData → Type 0
 AreAllowed [] s = Unit {0}
 AreAllowed (step ∷ steps) s = IsAllowed step s × AreAllowed steps (after_step step s)
+
+-- a line is issued only after the `ok` of the hello
+abbrev pub IsAfterHello : Step → SenderData → Type 0
+IsAfterHello (hears heard_line moment) s = Unit {0}
+IsAfterHello (ticks moment) s = Unit {0}
+IsAfterHello (issues text) s = s.ready ≡ true
+IsAfterHello (gives moment) s = Unit {0}
+
+-- each line is
+abbrev pub AreAfterHello : List Step → SenderData → Type 0
+AreAfterHello [] s = Unit {0}
+AreAfterHello (step ∷ steps) s = IsAfterHello step s × AreAfterHello steps (after_step step s)
 
 -- the replies that were heard in these steps
 abbrev pub replies_of : List Step → List Reply

@@ -12,7 +12,7 @@ use marlin_frame::frame;
 use std::alloc::{AllocError, Global};
 use std::marker::Model;
 
-// The most lines that may be held: as many as the largest window has, and one that stops the printer.
+// The most lines that may be held: as many as may ever be unacknowledged, and one that stops the printer.
 pub(crate) const MOST_HELD: usize = 17;
 
 // The text of a line.

@@ -1,9 +1,14 @@
 //! Laws of a sender's steps, which specs/ defines; each function does nothing, and its contract is the law.
-ghost use Rattle.send_window.specs.Laws.{HoldsLines, GivesHeldLines, AckedRises, EndStays, EndsByRule, AckedIsCounted, AckedIsNamed, FlagsAreNamed, SendsInSilence, EndsInSilence, WaitsFiveLimits};
+ghost use Rattle.send_window.specs.Laws.{HoldsLines, GivesHeldLines, AckedRises, EndStays, EndsByRule, AckedIsCounted, AckedIsNamed, FlagsAreNamed, SendsInSilence, EndsInSilence, WaitsFiveLimits, ExtraIsGiven};
 
 /// The lines held are the issued ones above acked, each with its number.
 pub fn held_law()
     ensures { HoldsLines }
+{}
+
+/// When more lines than the window may be unacknowledged.
+pub fn extra_law()
+    ensures { ExtraIsGiven }
 {}
 
 /// What goes out is the hello or the frame of a line above acked.

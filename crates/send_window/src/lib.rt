@@ -11,8 +11,8 @@ mod sender;
 mod session_end;
 
 pub use laws::{
-    acked_law, counted_law, end_law, ends_law, given_law, held_law, named_law, silence_law,
-    wait_law,
+    acked_law, counted_law, end_law, ends_law, extra_law, given_law, held_law, named_law,
+    silence_law, wait_law,
 };
 pub use sender::Sender;
 pub use session_end::SessionEnd;

@@ -2,15 +2,15 @@
 ghost use Rattle.std.specs.Prelude.{◌≡◌, ◌<◌, ◌≤◌, ◌+◌, ◌^◌, All, length, IfOk, IfSome, IsNone, None, option_map, true, false};
 ghost use Rattle.byte_text.specs.Marks.{has_byte};
 ghost use Rattle.byte_text.specs.declared.texts.TheConstants.{MOST_LINE_BYTES};
-ghost use Rattle.marlin_frame.specs.Numbering.{wire_number, hello_frame};
+ghost use Rattle.marlin_frame.specs.Numbering.{wire_number};
 ghost use Rattle.send_window.specs.Data.{IsSound, new_sender, sender_after_dial};
 ghost use Rattle.send_window.specs.Hearing.{hear_step, tick_step, answer_of};
-ghost use Rattle.send_window.specs.Sending.{IsFramable, room_at, room_of, last_room_of, push_step, next_of, number_of_outgoing, bytes_of_outgoing, frame_step};
+ghost use Rattle.send_window.specs.Sending.{IsFramable, hello_with, room_at, room_of, last_room_of, push_step, next_of, number_of_outgoing, bytes_of_outgoing, frame_step};
 
 use crate::held::Held;
 use crate::session_end::SessionEnd;
 use byte_text::Line;
-use marlin_frame::{HELLO_NUMBER, hello_frame, wire_number};
+use marlin_frame::{HELLO_NUMBER, frame, wire_number};
 use marlin_reply::Reply;
 use std::alloc::{AllocError, Global};
 use std::marker::Model;
@@ -21,6 +21,12 @@ mod hearing;
 // The most lines of a session: their numbers go from 2 to `LAST_NUMBER`.
 const MOST_LINES: u32 = 1_999_999_999;
 
+// The most lines that may be unacknowledged, without one that stops the printer.
+const MOST_OPEN: u8 = 16;
+
+// The most hellos of a session, if each has a number of its own.
+const MOST_HELLOS: u8 = 10;
+
 // After this number of limits in a row the session ends: limits in which nothing was received, and before the `ok` of the
 // hello all of them.
 const MOST_SILENT: u8 = 5;
@@ -30,8 +36,13 @@ const MOST_TOLD: u8 = 20;
 
 /// Sends the lines of a session in order, as Marlin's serial protocol asks: each has a number from 2 and a checksum,
 /// is held until its `ok`, and goes out again on a Resend or if the limit passes. A session begins with the hello
-/// `N0 M110 N1*124`, and sends nothing else before its `ok`. So no line has the number 1, which a printer that has
-/// restarted expects. Moments and the limit are in milliseconds.
+/// `N0 M110 N1*124`, and sends nothing else before its `ok` but for one line that stops the printer. So no line has the
+/// number 1, which a printer that has restarted expects. Moments and the limit are in milliseconds.
+///
+/// If `ok`s count by their numbers, the hello goes out again after a limit or a Resend, each time under the next number and
+/// with a limit more to be answered in; only the `ok` that names the last one counts. So a printer that was still starting is
+/// reached, and a lost hello or its `ok` is made good. The same hello twice would be wrong: the second one may wait in the
+/// printer behind which a line was taken, and sets its number back.
 #[derive(Drop)]
 pub struct Sender {
     // Lines go by their places in the session, from 1. First the most lines that may be unacknowledged.
@@ -64,6 +75,12 @@ pub struct Sender {
     // last issued one.
     asked_anew: bool,
     told: u8,
+    // How many lines more than the window may be unacknowledged, and whether a limit has passed since a Resend last said
+    // what the printer has.
+    extra: u8,
+    doubts: bool,
+    // How many hellos were sent, if each has a number of its own: the number of the next one.
+    hellos: u8,
     // Whether the hello is to be sent, and whether it was acknowledged.
     hello_due: bool,
     ready: bool,
@@ -86,7 +103,8 @@ impl Model for Sender {
 impl Sender {
     /// A sender of no session yet. At most `window` lines are unacknowledged at a time, 1 to 16; `limit` is the time
     /// that an answer may take, in milliseconds, at least 1. If `numbered`, an `ok` counts only by the number that it
-    /// names, as with Marlin's `ADVANCED_OK`. Fails if out of memory.
+    /// names, as with Marlin's `ADVANCED_OK`. Then a line more than the window may be unacknowledged, 16 in all, each time
+    /// a limit shows that an `ok` was lost, since the next line's makes it good. Fails if out of memory.
     pub fn new(alloc: Global, window: u8, numbered: bool, limit: u64) -> Result<Sender, AllocError>
         requires open_window { 1 ≤ window }
         requires small_window { window ≤ 16 }
@@ -111,6 +129,9 @@ impl Sender {
             silent: 0,
             asked_anew: false,
             told: 0,
+            extra: 0,
+            doubts: false,
+            hellos: 0,
             hello_due: false,
             ready: false,
             ended: None,
@@ -135,6 +156,9 @@ impl Sender {
         self.silent = 0;
         self.asked_anew = false;
         self.told = 0;
+        self.extra = 0;
+        self.doubts = false;
+        self.hellos = 0;
         self.hello_due = true;
         self.ready = false;
         self.ended = None;
@@ -193,7 +217,8 @@ impl Sender {
         self.issued
     }
 
-    /// How many more lines may be issued: in a ready session as many as the window and the most lines leave, else 0.
+    /// How many more lines may be issued: in a ready session as many as the window, with what it has more, and the most lines leave,
+    /// else 0.
     pub fn room(&self) -> usize
         ensures room { result ≡ room_of self.now }
         ensures sound { IsSound self.now }
@@ -201,31 +226,38 @@ impl Sender {
         // As many as it may be with one that stops the printer.
         ensures last { result ≤ last_room_of self.now }
     {
-        self.room_in(self.window as u32)
+        self.room_in(self.window)
     }
 
-    /// The same if the last of these lines stops the printer: that one may be past the window.
+    /// The same if the last of these lines stops the printer: that one may be past the window, and before the `ok` of the hello it
+    /// may be the only one.
     pub fn last_room(&self) -> usize
         ensures room { result ≡ last_room_of self.now }
         ensures sound { IsSound self.now }
     {
-        self.room_in(self.window as u32 + 1)
+        if self.ended.is_none() && !self.ready {
+            return 1 - self.issued as usize;
+        }
+        self.room_in(self.window + 1)
     }
 
     // How many more lines may be issued with a window of this size.
-    fn room_in(&self, window: u32) -> usize
+    fn room_in(&self, window: u8) -> usize
         ensures { result
             ≡ room_at self.now.ended self.now.ready (record self.now { window = window }) }
     {
         if self.ended.is_some() || !self.ready {
             return 0;
         }
-        let open = window.saturating_sub(self.issued - self.acked);
+        let open = (u32::from(window) + u32::from(self.extra)).saturating_sub(
+            self.issued - self.acked,
+        );
         open.min(MOST_LINES - self.issued) as usize
     }
 
     /// Issues a line and returns its number, one more than the last one; the first line has 2. The text has 1 to 79
-    /// bytes, no `*` and no line feed. A line that stops the printer may be one more than the window holds.
+    /// bytes, no `*` and no line feed. A line that stops the printer may be one more than the window holds, or the only one
+    /// before the `ok` of the hello: a session that issued it so hears no more.
     pub fn push(&mut self, text: &[u8]) -> u32
         requires room { 0 < last_room_of self.old }
         requires framable { IsFramable text.now }
@@ -257,7 +289,7 @@ impl Sender {
             return None;
         }
         if self.hello_due {
-            hello_frame(into);
+            write_hello(self.hellos, into);
             self.give_hello(moment);
             return Some(HELLO_NUMBER);
         }
@@ -280,4 +312,14 @@ impl Sender {
             None => Ok(()),
         }
     }
+}
+
+// Writes the hello under a number of its own. Nothing of what the line held stays.
+#[tactic(auto, unfolding(byte_text::specs::Marks::has_byte))]
+fn write_hello(number: u8, into: &mut Line)
+    ensures written { into.new.items ≡ hello_with number }
+    ensures at_most_95 { length into.new.items ≤ MOST_LINE_BYTES }
+    ensures one_line { has_byte 10 into.new.items ≡ false }
+{
+    frame(u32::from(number), b"M110 N1", into);
 }

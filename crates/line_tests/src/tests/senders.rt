@@ -3,8 +3,10 @@ ghost use Rattle.std.specs.Prelude.{◌≡◌, [], ◌∷◌, None};
 ghost use Rattle.send_window.specs.Counting.{acked_of};
 
 mod ends;
+mod hellos;
 mod lost;
 mod named;
+mod wider;
 
 use byte_text::{Line, has_byte};
 use marlin_reply::Reply;

@@ -1,19 +1,22 @@
 //! What the clock makes of a sender, and the moments by which an answer is due.
-ghost use Rattle.std.specs.Prelude.{◌≡◌, ◌≤◌, None, Some, unwrap_or, true, false};
+ghost use Rattle.std.specs.Prelude.{◌≡◌, ◌≤◌, ◌*◌, None, Some, unwrap_or, true, false};
 ghost use Rattle.send_window.specs.Data.{IsSound};
-ghost use Rattle.send_window.specs.Hearing.{deadline_at, end_of_numbers, is_past, later, limit_passed, renewed, silent_limits, ticked, told_limits};
+ghost use Rattle.send_window.specs.Hearing.{deadline_at, due_again, end_of_numbers, is_greeting, is_past, later, limit_passed, renewed, silent_limits, ticked, told_limits, wait_after};
 ghost use Rattle.send_window.specs.Sending.{after_giving, hello, next_line};
 
-use super::{MOST_LINES, MOST_SILENT, MOST_TOLD, Sender};
+use super::{MOST_HELLOS, MOST_LINES, MOST_SILENT, MOST_TOLD, Sender};
 use crate::session_end::SessionEnd;
 
 impl Sender {
     pub(super) fn give_hello(&mut self, moment: u64)
         requires { self.old.hello_due ≡ true }
-        ensures state { self.new ≡ after_giving (Some hello) moment self.old }
+        ensures state { self.new ≡ after_giving (Some (hello self.old.hellos)) moment self.old }
         ensures sound { IsSound self.new }
     {
         self.hello_due = false;
+        if self.numbered {
+            self.hellos += 1;
+        }
         self.heard = self.deadline.is_some() && self.heard;
         self.deadline = Some(deadline_from(self.deadline, moment, self.limit));
     }
@@ -52,6 +55,35 @@ impl Sender {
         }
     }
 
+    // Whether the hello has no `ok` yet, and each has a number of its own.
+    fn is_greeting(&self) -> bool
+        ensures { result ≡ is_greeting self.now }
+    {
+        self.numbered && !self.ready
+    }
+
+    // Whether a hello is to be sent after a limit.
+    fn is_due_again(&self) -> bool
+        ensures { result ≡ due_again self.now }
+    {
+        if self.is_greeting() {
+            self.hellos < MOST_HELLOS
+        } else {
+            self.hello_due
+        }
+    }
+
+    // The next deadline, after this count of silent limits.
+    fn deadline_after(&self, silent: u8, moment: u64) -> u64
+        ensures { result ≡ later moment (wait_after silent self.now) }
+    {
+        if self.is_greeting() {
+            later_by_limits(moment, u64::from(silent) + 1, self.limit)
+        } else {
+            later_by(moment, self.limit)
+        }
+    }
+
     fn pass_limit(&mut self, moment: u64)
         requires open { self.old.ended ≡ None }
         requires late { is_past self.old.deadline moment ≡ true }
@@ -78,8 +110,10 @@ impl Sender {
             self.cursor = self.acked + 1;
             self.left = 0;
         }
+        self.doubts = self.doubts || (self.numbered && self.ready);
+        self.hello_due = self.is_due_again();
         self.heard = false;
-        self.deadline = Some(later_by(moment, self.limit));
+        self.deadline = Some(self.deadline_after(silent, moment));
     }
 }
 
@@ -89,6 +123,14 @@ fn later_by(moment: u64, span: u64) -> u64
     ensures { result ≡ later moment span }
 {
     moment.saturating_add(span)
+}
+
+// The moment this number of limits later, at most the greatest one.
+#[tactic(auto, unfolding(crate::specs::Hearing::later))]
+fn later_by_limits(moment: u64, count: u64, limit: u64) -> u64
+    ensures { result ≡ later moment (count * limit) }
+{
+    moment.saturating_add(count.saturating_mul(limit))
 }
 
 // The deadline at a moment, none if all lines are acknowledged.

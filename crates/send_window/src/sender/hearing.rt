@@ -1,10 +1,10 @@
 //! What a reply makes of a sender.
 ghost use Rattle.std.specs.Prelude.{◌≡◌, ◌<◌, ◌≤◌, ◌+◌, None, true, false};
 ghost use Rattle.marlin_frame.specs.Numbering.{wire_number};
-ghost use Rattle.send_window.specs.Hearing.{acknowledged, acknowledged_to, after_busy, deadline_at, end_of_numbers, heard_ok, heard_reply, heard_resend, heard_start, hello_asked, is_repeated, line_asked, line_ok, made_ready, named_ok, ok_in, ok_named, place_ok, resend_asked};
+ghost use Rattle.send_window.specs.Hearing.{acknowledged, acknowledged_to, after_busy, another_hello, deadline_at, end_of_numbers, extra_after, has_all, heard_ok, heard_reply, heard_resend, heard_start, hello_asked, hello_resent, is_repeated, line_asked, line_ok, made_ready, named_ok, ok_in, ok_named, place_ok, resend_asked};
 
-use super::Sender;
 use super::clock::{deadline_of, end_of, renewed};
+use super::{MOST_HELLOS, MOST_OPEN, Sender};
 use crate::session_end::SessionEnd;
 use marlin_frame::{HELLO_NUMBER, wire_number};
 use marlin_reply::Reply;
@@ -63,14 +63,14 @@ impl Sender {
         self.heard = false;
     }
 
-    // An `ok` that counts only by the number that it names; the hello's names 0.
+    // An `ok` that counts only by the number that it names; of the hellos' only the last one's counts.
     fn hear_named_ok(&mut self, number: Option<u32>, moment: u64)
         requires open { self.old.ended ≡ None }
         ensures { self.new ≡ ok_named self.old.ready number moment self.old }
     {
         match number {
             Some(number) if self.ready => self.hear_ok_through(number, moment),
-            Some(0) => self.make_ready(),
+            Some(number) if u64::from(number) + 1 == u64::from(self.hellos) => self.make_ready(),
             _ => self.heard = true,
         }
     }
@@ -108,6 +108,7 @@ impl Sender {
         self.heard = false;
         self.asked_anew = false;
         self.told = 0;
+        self.extra = 0;
         self.ended = end_of(place, self.issued);
     }
 
@@ -162,13 +163,26 @@ impl Sender {
     {
         if self.ready {
             self.hear_line_resend(number, moment);
+        } else if self.numbered {
+            self.hello_due = self.hellos < MOST_HELLOS;
+            self.heard = true;
         } else {
-            self.swallow = !self.numbered;
-            self.hello_due = true;
-            self.deadline = deadline_of(moment, self.limit, self.acked, self.issued);
-            self.silent = 0;
-            self.heard = false;
+            self.ask_hello();
         }
+    }
+
+    // A Resend of the hello that has the number 0 each time.
+    fn ask_hello(&mut self)
+        requires open { self.old.ended ≡ None }
+        requires unready { self.old.ready ≡ false }
+        requires counted { self.old.numbered ≡ false }
+        ensures { self.new ≡ hello_asked self.old }
+    {
+        self.swallow = true;
+        self.hello_due = true;
+        self.deadline = None;
+        self.silent = 0;
+        self.heard = false;
     }
 
     fn hear_line_resend(&mut self, number: u32, moment: u64)
@@ -207,12 +221,33 @@ impl Sender {
             self.asked = place;
             self.left = self.sent.saturating_sub(place);
         }
+        if place == self.issued + 1 {
+            self.widen();
+        }
         self.swallow = !self.numbered;
         let next = deadline_of(moment, self.limit, self.acked, self.issued);
         self.deadline = renewed(self.deadline, next);
         self.silent = 0;
         self.heard = false;
         self.asked_anew = true;
+    }
+
+    // The printer has all issued lines: after a limit one more may be unacknowledged, if the window is full.
+    fn widen(&mut self)
+        requires { self.old.ended ≡ None }
+        ensures { self.new
+            ≡ record self.old { extra = extra_after (self.old.issued + 1) self.old; doubts = false } }
+    {
+        let unacknowledged = self.issued - self.acked;
+        let open = self.window + self.extra;
+        if self.doubts
+            && unacknowledged > 0
+            && u32::from(open) <= unacknowledged
+            && open < MOST_OPEN
+        {
+            self.extra += 1;
+        }
+        self.doubts = false;
     }
 
     // The printer is at work: an `ok` may still come.
