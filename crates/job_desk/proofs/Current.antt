@@ -3,8 +3,8 @@ use Rattle.std.proofs.Common.{◌≡◌, ℕ, Bool, true, false, cond, nat_eq, �
 use Rattle.std.proofs.lemmas.Bool.{false≢true}
 use Rattle.std.specs.Prelude.{◌&&◌}
 use Rattle.job_desk.specs.Data.{ScriptTexts, Data, File, Line, script_lines, commands_of, with_script, moment_after}
-use Rattle.job_desk.specs.Table.{closing, connect_at, disconnect_at, select_at, drop_file_step, is_named, pause_at, resume_at, toggle_at, cancel_at, manual_at, add_manual, take_manual, is_stop, stopping}
-use Rattle.job_desk.specs.Pull.{Drawn, draw_in_order, nothing, next_number, keep_number, issue, from_scripts, from_manual, from_poll, poll_is_due, from_probe, probe_is_due, from_file, draw_last, draw_at, is_issued, settle_at, pull_step}
+use Rattle.job_desk.specs.Table.{closing, connect_at, disconnect_at, select_at, drop_file_step, is_named, pause_at, resume_at, toggle_at, cancel_at, manual_at, add_manual, take_manual, is_stop, stopping, may_stop_closing}
+use Rattle.job_desk.specs.Pull.{Drawn, draw_in_order, nothing, next_number, keep_number, issue, from_scripts, from_manual, from_poll, poll_is_due, from_probe, put_off, probe_is_due, from_file, draw_last, draw_at, is_issued, settle_at, pull_step}
 use Rattle.job_desk.specs.Course.{job_line}
 use Rattle.job_desk.specs.Run.{print_lines}
 use Rattle.job_desk.specs.declared.state.State.{State}
@@ -195,7 +195,8 @@ module _ (p : ℕ) (commands : List (List ℕ)) where
   current-manual out Paused lines d h = current-take out lines d h
   current-manual out Cancelling lines d h = current-take out lines d h
   current-manual out Finishing lines d h = current-take out lines d h
-  current-manual out Closing lines d h = choose_pair out (is_stop lines && d.ready) _ _ (to_stopping out lines d h) h
+  current-manual out Connecting lines d h = choose_pair out (is_stop lines && d.linked) _ _ (to_stopping out lines d h) h
+  current-manual out Closing lines d h = choose_pair out (is_stop lines && may_stop_closing d) _ _ (to_stopping out lines d h) h
   current-manual out _ lines d h = h
 
   -- the pulled lines of the print with one more line, if there is one
@@ -265,7 +266,7 @@ module _ (p : ℕ) (commands : List (List ℕ)) where
   current-probe : (out : List Line) (awaited moment : ℕ) (d : Data) → CurrentTo p commands out d → CurrentDrawn out (from_probe awaited moment d)
   current-probe out awaited moment d h =
       choose_drawn out (probe_is_due awaited moment d) _ (nothing d) (other_issue out (record { text = codes "M400"; tag = Poll })
-      (record d { probe_at = moment_after moment d.poll_ms }) refl h) h
+      (put_off moment d) refl h) h
 
   own_job : (d : Data) (text : List ℕ) → d.greatest ≡ p → own p (job_line d.greatest d.cursor text) ≡ job_line p d.cursor text ∷ []
   own_job d text e =

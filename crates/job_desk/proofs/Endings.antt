@@ -94,7 +94,7 @@ module _ (acked : ℕ) (f : LinkFact) (d : Data) where
 
   leave_ends : (how : Outcome) (s : State) (b : Bool) (t : Data) → t.active ≡ b → t.active ≡ d.active → t.greatest ≡ d.greatest →
       EndsAs how acked f d → ((e : Data) → LeavesFree how acked f d.stopped e) →
-      EndsIn acked f d (cond b (Some (record { print = t.greatest; outcome = how })) None) (record t { state = s; active = false; waiting = []; manual = []; stopped = false })
+      EndsIn acked f d (cond b (Some (record { print = t.greatest; outcome = how })) None) (record t { state = s; active = false; waiting = []; manual = []; stopped = false; linked = false })
   leave_ends how s true t is same print by leaves = (record { active = sym same ∙ is; print = print; by = by }, leaves (leave s how t).1, refl)
   leave_ends how s false t is same print by leaves = (sym is ∙ same, print)
 

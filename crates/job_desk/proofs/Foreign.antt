@@ -3,8 +3,8 @@ use Rattle.std.proofs.Common.{◌≡◌, ◌⊎◌, inl, inr, ℕ, Bool, true, f
 use Rattle.std.proofs.lemmas.Bool.{false≢true, cond_both}
 use Rattle.std.specs.Prelude.{◌&&◌}
 use Rattle.job_desk.specs.Data.{Data, File, Line, script_lines, moment_after}
-use Rattle.job_desk.specs.Table.{connect_at, disconnect_at, select_at, drop_file_step, is_named, printing, pause_at, resume_at, toggle_at, cancel_at, manual_at, add_manual, take_manual, is_stop}
-use Rattle.job_desk.specs.Pull.{Drawn, draw_in_order, nothing, next_number, keep_number, issue, from_scripts, from_manual, from_poll, poll_is_due, from_probe, probe_is_due, from_file, draw_last, draw_at, is_issued, settle_at, pull_step}
+use Rattle.job_desk.specs.Table.{connect_at, disconnect_at, select_at, drop_file_step, is_named, printing, pause_at, resume_at, toggle_at, cancel_at, manual_at, add_manual, take_manual, is_stop, may_stop_closing}
+use Rattle.job_desk.specs.Pull.{Drawn, draw_in_order, nothing, next_number, keep_number, issue, from_scripts, from_manual, from_poll, poll_is_due, from_probe, put_off, probe_is_due, from_file, draw_last, draw_at, is_issued, settle_at, pull_step}
 use Rattle.job_desk.specs.Note.{Noted, after_ending, is_over, end_at, finish, leave, hung_up, fail, ready_at, after_open, note_fact, note_step, with_acked}
 use Rattle.job_desk.specs.Course.{job_line}
 use Rattle.job_desk.specs.Run.{is_of, print_lines}
@@ -123,7 +123,8 @@ module _ (p : ℕ) where
   foreign-manual Paused lines d f = foreign-take lines d f
   foreign-manual Cancelling lines d f = foreign-take lines d f
   foreign-manual Finishing lines d f = foreign-take lines d f
-  foreign-manual Closing lines d f = choose_pair (is_stop lines && d.ready) _ _ (idle d Closing tt f) f
+  foreign-manual Connecting lines d f = choose_pair (is_stop lines && d.linked) _ _ (idle d Closing tt f) f
+  foreign-manual Closing lines d f = choose_pair (is_stop lines && may_stop_closing d) _ _ (idle d Closing tt f) f
   foreign-manual _ lines d f = f
 
   -- a line of something else, or none
@@ -174,7 +175,7 @@ module _ (p : ℕ) where
   foreign-probe : (awaited moment : ℕ) (d : Data) → ForeignTo p d → ForeignDrawn (from_probe awaited moment d)
   foreign-probe awaited moment d f =
       choose_drawn (probe_is_due awaited moment d) _ (nothing d) (foreign-issue (record { text = codes "M400"; tag = Poll })
-      (record d { probe_at = moment_after moment d.poll_ms }) refl f) (f, tt)
+      (put_off moment d) refl f) (f, tt)
 
   foreign-file : (text : Option (List ℕ)) (d : Data) → nat_eq d.greatest p ≡ false → ForeignTo p d → ForeignDrawn (from_file text d)
   foreign-file None d e f = (f, tt)

@@ -87,7 +87,7 @@ module _ (p : ℕ) (commands : List (List ℕ)) (scripts : ScriptTexts) where
 
   leaves : (f : LinkFact) (out : List Line) (s : State) (how : Outcome) (b : Bool) (d : Data) → IsIdle s → d.active ≡ b → d.scripts ≡ scripts →
       CurrentTo p commands out d → Story scripts p (commands ∷ []) out (fate_of f how ∷ [])
-      → NotedAs f out (cond b (Some (record { print = d.greatest; outcome = how })) None) (record d { state = s; active = false; waiting = []; manual = []; stopped = false })
+      → NotedAs f out (cond b (Some (record { print = d.greatest; outcome = how })) None) (record d { state = s; active = false; waiting = []; manual = []; stopped = false; linked = false })
   leaves f out s how true d i e k h story = (h.is, record { none = refl; other = inr (refl, i) }, story)
   leaves f out s how false d i e k h story = absurd (false≢true (sym e ∙ h.active_is))
 

@@ -1,7 +1,7 @@
 -- What is left to settle after a pull or a note.
 use Rattle.std.proofs.Common.{◌≡◌, ℕ, Bool, true, false, cond, codes, List, [], ◌∷◌, Option, None, Some, refl, ◌∙◌, ap}
 use Rattle.job_desk.specs.Data.{Data, Line, with_script, moment_after}
-use Rattle.job_desk.specs.Pull.{Drawn, draw_in_order, nothing, issue, from_scripts, from_manual, poll_is_due, probe_is_due, from_probe, from_file, draw_last, draw_at, is_issued, settle_at, settled}
+use Rattle.job_desk.specs.Pull.{Drawn, draw_in_order, nothing, issue, from_scripts, from_manual, poll_is_due, probe_is_due, put_off, from_probe, from_file, draw_last, draw_at, is_issued, settle_at, settled}
 use Rattle.job_desk.specs.Note.{note_fact, with_acked}
 use Rattle.job_desk.specs.Course.{job_line}
 use Rattle.job_desk.specs.declared.state.State.{State}
@@ -57,7 +57,7 @@ idle_talk moment d next h = idle_scripts d.waiting d _ (idle_manual d.manual d _
 
 idle_probe : (awaited moment : ℕ) (d : Data) → Idle d (from_probe awaited moment d)
 idle_probe awaited moment d =
-    idle_choice (probe_is_due awaited moment d) (record { text = codes "M400"; tag = Poll }) d (record d { probe_at = moment_after moment d.poll_ms })
+    idle_choice (probe_is_due awaited moment d) (record { text = codes "M400"; tag = Poll }) d (put_off moment d)
     (nothing d) (λ e. refl)
 
 idle_last : (b : Bool) (moment : ℕ) (d : Data) → Idle d (draw_last b moment d)

@@ -3,8 +3,8 @@ use Rattle.std.proofs.Common.{◌≡◌, ℕ, Bool, true, false, cond, nat_eq, L
 use Rattle.std.proofs.Common.{◌+◌, codes}
 use Rattle.std.specs.Prelude.{◌&&◌}
 use Rattle.job_desk.specs.Data.{moment_after, Data, File, Line, tagged, texts_at, script_lines, with_script}
-use Rattle.job_desk.specs.Table.{connect_at, disconnect_at, select_at, drop_file_step, is_named, pause_at, resume_at, toggle_at, cancel_at, manual_at, add_manual, take_manual, is_stop, stopping}
-use Rattle.job_desk.specs.Pull.{Drawn, draw_in_order, nothing, next_number, keep_number, issue, from_scripts, from_manual, from_poll, poll_is_due, from_probe, probe_is_due, from_file, draw_last, draw_at, is_issued, settle_at, settled, pull_step}
+use Rattle.job_desk.specs.Table.{connect_at, disconnect_at, select_at, drop_file_step, is_named, pause_at, resume_at, toggle_at, cancel_at, manual_at, add_manual, take_manual, is_stop, stopping, may_stop_closing}
+use Rattle.job_desk.specs.Pull.{Drawn, draw_in_order, nothing, next_number, keep_number, issue, from_scripts, from_manual, from_poll, poll_is_due, from_probe, put_off, probe_is_due, from_file, draw_last, draw_at, is_issued, settle_at, settled, pull_step}
 use Rattle.job_desk.specs.Course.{job_line}
 use Rattle.job_desk.specs.Note.{Noted, after_ending, is_over, end_at, leave, hung_up, fail, ready_at, after_open, note_fact, note_step, with_acked}
 use Rattle.job_desk.specs.declared.state.State.{State}
@@ -137,7 +137,8 @@ steady-manual Pausing lines d = steady-takes lines d
 steady-manual Paused lines d = steady-takes lines d
 steady-manual Cancelling lines d = steady-takes lines d
 steady-manual Finishing lines d = steady-takes lines d
-steady-manual Closing lines d = choose_pair (λ e. Steady d e) (is_stop lines && d.ready) _ _ (steady-stopping lines d) (same d)
+steady-manual Connecting lines d = choose_pair (λ e. Steady d e) (is_stop lines && d.linked) _ _ (steady-stopping lines d) (same d)
+steady-manual Closing lines d = choose_pair (λ e. Steady d e) (is_stop lines && may_stop_closing d) _ _ (steady-stopping lines d) (same d)
 steady-manual _ lines d = same d
 
 steady-keep : (tag : Tag) (number : ℕ) (d : Data) → Steady d (keep_number tag number d)
@@ -174,7 +175,7 @@ steady-poll moment d next h =
 
 steady-probe : (awaited moment : ℕ) (d : Data) → Steady d (from_probe awaited moment d).1
 steady-probe awaited moment d =
-    let asked : Data = record d { probe_at = moment_after moment d.poll_ms } in
+    let asked : Data = put_off moment d in
     choose_pair (λ e. Steady d e) (probe_is_due awaited moment d) _ _ (steady-issue (record { text = codes "M400"; tag = Poll }) d asked
     (alike d asked (refl, refl, refl))) (same d)
 

@@ -89,6 +89,8 @@ pub record Data : Type 0 where
   pub ready : Bool
   -- whether a user's line stops the printer: it alone is issued, and then the link is hung up
   pub stopped : Bool
+  -- whether a link is made
+  pub linked : Bool
 
 -- a desk at which nothing was done yet
 abbrev pub new_desk : ScriptTexts → Limits → ℕ → Bool → Data
@@ -114,6 +116,7 @@ new_desk scripts limits poll_ms numbered = record {
   last_line = 0;
   ready = false;
   stopped = false;
+  linked = false;
 }
 
 -- a script's lines join those that wait

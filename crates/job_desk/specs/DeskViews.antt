@@ -42,6 +42,7 @@ desk_data desk = record {
   last_line = desk.lines.last;
   ready = desk.ready;
   stopped = desk.stopped;
+  linked = desk.linked;
 }
 
 -- the most scripts that wait in a state: what a state adds is over before the next one that adds comes, but for a print

@@ -40,9 +40,9 @@ end_at Fault d = (None, d)
 abbrev pub after_ending : Data → Noted
 after_ending d = end_at d.state d
 
--- a new session: nothing was issued in it yet
+-- a link is made, and a session begins: nothing was issued in it yet
 abbrev pub after_open : Data → Data
-after_open d = record d { issued = 0; acked = 0; print_line = 0; poll_line = 0; last_line = 0 }
+after_open d = record d { issued = 0; acked = 0; print_line = 0; poll_line = 0; last_line = 0; linked = true }
 
 -- the hello was acknowledged
 abbrev pub ready_at : State → ℕ → Data → Data
@@ -63,7 +63,7 @@ ready_at Fault moment d = d
 abbrev pub leave : State → Outcome → Data → Noted
 leave state how d = (
   if d.active then Some (record { print = d.greatest; outcome = how }) else None,
-  record d { state = state; active = false; waiting = []; manual = []; stopped = false },
+  record d { state = state; active = false; waiting = []; manual = []; stopped = false; linked = false },
 )
 
 -- a failure comes after the ends by acknowledgement, so what this very note completes is done

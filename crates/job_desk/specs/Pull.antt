@@ -1,5 +1,5 @@
 -- The next line to issue.
-use Rattle.std.specs.Prelude.{ℕ, ◌+◌, Bool, true, false, ◌&&◌, ◌==◌, nat_le, nat_lt, min, codes, List, [], ◌∷◌, length, slice_get, Option, None, Some, if◌then◌else◌}
+use Rattle.std.specs.Prelude.{ℕ, ◌+◌, Bool, true, false, not, ◌&&◌, ◌==◌, nat_le, nat_lt, min, codes, List, [], ◌∷◌, length, slice_get, Option, None, Some, if◌then◌else◌}
 use Rattle.byte_text.specs.Number.{most_u64}
 use Rattle.job_desk.specs.Data.{Data, Line, commands_of, with_script, moment_after}
 use Rattle.job_desk.specs.declared.state.State.{State}
@@ -46,9 +46,19 @@ abbrev pub from_manual : List (List ℕ) → Data → Drawn → Drawn
 from_manual [] d next = next
 from_manual (text ∷ texts) d next = issue (record { text = text; tag = Manual }) (record d { manual = texts })
 
--- a poll is due, and every earlier one was acknowledged
+-- whether the commands of a file are issued
+abbrev pub is_printing : State → Bool
+is_printing Printing = true
+is_printing _ = false
+
+-- the line up to which all must be acknowledged before a poll: the last poll. With numbered `ok`s and no more commands, of which each brings a
+-- number, it is the last issued line: the reply to a poll has none, so a probe takes its place
+abbrev pub polled_line : Data → ℕ
+polled_line d = if d.numbered && not (is_printing d.state) then d.issued else d.poll_line
+
+-- a poll is due
 abbrev pub poll_is_due : ℕ → Data → Bool
-poll_is_due moment d = nat_le d.poll_at moment && nat_le d.poll_line d.acked
+poll_is_due moment d = nat_le d.poll_at moment && nat_le (polled_line d) d.acked
 
 -- a due poll, or else what is next
 abbrev pub from_poll : ℕ → Data → Drawn → Drawn
@@ -60,10 +70,14 @@ from_poll moment d next =
 abbrev pub probe_is_due : ℕ → ℕ → Data → Bool
 probe_is_due awaited moment d = d.numbered && (nat_le d.probe_at moment && nat_lt d.acked awaited)
 
+-- the next probe is put off, and so is the next poll
+abbrev pub put_off : ℕ → Data → Data
+put_off moment d = record d { poll_at = moment_after moment d.poll_ms; probe_at = moment_after moment d.poll_ms }
+
 -- a due probe, or else no line: a command that waits for all moves, whose `ok` has a number
 abbrev pub from_probe : ℕ → ℕ → Data → Drawn
 from_probe awaited moment d =
-    if probe_is_due awaited moment d then issue (record { text = codes "M400"; tag = Poll }) (record d { probe_at = moment_after moment d.poll_ms })
+    if probe_is_due awaited moment d then issue (record { text = codes "M400"; tag = Poll }) (put_off moment d)
     else nothing d
 
 -- the file command at the cursor, which moves on

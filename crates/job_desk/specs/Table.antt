@@ -207,21 +207,25 @@ stopping lines d = record d { state = Closing; manual = lines; ready = false; st
 abbrev pub take_manual : List (List ℕ) → Data → Answer
 take_manual lines d = if is_stop lines then ok_answer (stopping lines d) else add_manual lines d
 
--- while the link is being closed it must still wait for its script, and only the stop is taken
-abbrev pub last_manual : List (List ℕ) → Data → Answer
-last_manual lines d = if is_stop lines && d.ready then ok_answer (stopping lines d) else wrong_state d
+-- only the stop is taken, and only if it may be
+abbrev pub stop_alone : Bool → List (List ℕ) → Data → Answer
+stop_alone may lines d = if is_stop lines && may then ok_answer (stopping lines d) else wrong_state d
 
--- a call to issue lines of a user
+-- whether it may be while the link is being closed: that must still wait for its script, and no stop was taken before
+abbrev pub may_stop_closing : Data → Bool
+may_stop_closing d = d.ready && not d.stopped
+
+-- a call to issue lines of a user; before the `ok` of the hello only the stop is taken, once a link is made
 abbrev pub manual_at : State → List (List ℕ) → Data → Answer
 manual_at Offline lines d = wrong_state d
-manual_at Connecting lines d = wrong_state d
+manual_at Connecting lines d = stop_alone d.linked lines d
 manual_at Operational lines d = take_manual lines d
 manual_at Printing lines d = take_manual lines d
 manual_at Pausing lines d = take_manual lines d
 manual_at Paused lines d = take_manual lines d
 manual_at Cancelling lines d = take_manual lines d
 manual_at Finishing lines d = take_manual lines d
-manual_at Closing lines d = last_manual lines d
+manual_at Closing lines d = stop_alone (may_stop_closing d) lines d
 manual_at Fault lines d = wrong_state d
 
 -- the line up to which all must be acknowledged before a connection is closed: the last one, or, if `ok`s have numbers, the last one

@@ -84,6 +84,8 @@ pub struct Desk {
     ready: bool,
     // Whether a user's line stops the printer: it alone is issued, and then the link is hung up.
     stopped: bool,
+    // Whether a link is made.
+    linked: bool,
 }
 
 impl Model for Desk {
@@ -102,7 +104,8 @@ impl Desk {
     /// A desk that is offline. A poll is due `poll_ms` milliseconds after the last one, at least 1. Fails if out of memory.
     ///
     /// If the printer's `ok`s have numbers, a lost `ok` is made good: with nothing else to issue, something unacknowledged, and
-    /// nothing more acknowledged for `poll_ms`, the desk issues the probe `M400`. No probe is waited for when a connection ends.
+    /// nothing more acknowledged for `poll_ms`, the desk issues the probe `M400` in place of a poll. No probe is waited for when a
+    /// connection ends.
     ///
     /// Source: Marlin, `ADVANCED_OK`, M105 (its reply has no number) and M400 (finish moves).
     pub fn new(
@@ -141,6 +144,7 @@ impl Desk {
             },
             ready: false,
             stopped: false,
+            linked: false,
         })
     }
 

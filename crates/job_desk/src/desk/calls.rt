@@ -1,7 +1,7 @@
 //! The calls of the table: what a user asks of the desk.
 ghost use Rattle.std.specs.Prelude.{◌≡◌, ◌<◌, ◌≤◌, ◌+◌, ◌++◌, ◌⊎◌, length, true, false, Ok, Err, MatchResult, All};
 ghost use Rattle.byte_text.specs.Sendable.{IsSendable};
-ghost use Rattle.job_desk.specs.Table.{add_manual, cancel_at, connect_at, disconnect_at, drop_file_step, is_closable_at, is_stop, manual_at, pause_at, printing, restart_at, resume_at, select_at, start_at, stopping, take_manual, toggle_at};
+ghost use Rattle.job_desk.specs.Table.{add_manual, cancel_at, connect_at, disconnect_at, drop_file_step, is_closable_at, is_stop, manual_at, pause_at, printing, restart_at, resume_at, select_at, start_at, stop_alone, stopping, take_manual, toggle_at};
 ghost use Rattle.job_desk.specs.Data.{named_file};
 ghost use Rattle.job_desk.specs.Views.{bytes_of};
 
@@ -183,7 +183,8 @@ impl Desk {
     /// and Finishing, and as Full if more than 256 lines would wait.
     ///
     /// If the only line is `M112` it stops the printer: it alone is issued, and then the connection may be closed, which ends a
-    /// print as failed. In Closing it is taken too, while the end of the connection waits for its script.
+    /// print as failed. It is taken too in Connecting, once a link is made, and in Closing, while the end of the connection waits
+    /// for its script and no such line was taken before.
     ///
     /// Source: Marlin, M112 (emergency stop) and `EMERGENCY_PARSER`.
     pub fn manual(&mut self, lines: &[Text]) -> Result<(), Refusal>
@@ -198,12 +199,29 @@ impl Desk {
             | State::Paused
             | State::Cancelling
             | State::Finishing => self.take_lines(lines),
-            State::Closing if self.ready && is_stop(lines) => {
-                self.stop(lines);
-                Ok(())
+            State::Connecting => {
+                let linked = self.linked;
+                self.stop_alone(linked, lines)
+            }
+            State::Closing => {
+                let may = self.ready && !self.stopped;
+                self.stop_alone(may, lines)
             }
             _ => Err(self.wrong_state()),
         }
+    }
+
+    // Only the line that stops the printer is taken, and only if it may be.
+    fn stop_alone(&mut self, may: bool, lines: &[Text]) -> Result<(), Refusal>
+        requires { All IsSendable (bytes_of lines.now) }
+        ensures answer { result ≡ (stop_alone may (bytes_of lines.now) self.old).0 }
+        ensures after { self.new ≡ (stop_alone may (bytes_of lines.now) self.old).1 }
+    {
+        if is_stop(lines) && may {
+            self.stop(lines);
+            return Ok(());
+        }
+        Err(self.wrong_state())
     }
 
     // Lines over a ready link: the one that stops the printer, or others, which wait.

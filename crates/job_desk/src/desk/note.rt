@@ -60,6 +60,7 @@ impl Desk {
         self.waiting.clear();
         self.manual.clear();
         self.stopped = false;
+        self.linked = false;
         if self.prints.active {
             Some(self.prints.end(outcome))
         } else {
@@ -67,7 +68,7 @@ impl Desk {
         }
     }
 
-    // A new session: nothing was issued in it yet.
+    // A link is made, and a session begins: nothing was issued in it yet.
     fn open(&mut self)
         ensures { self.new ≡ after_open self.old }
     {
@@ -78,6 +79,7 @@ impl Desk {
             of_poll: 0,
             last: 0,
         };
+        self.linked = true;
     }
 
     // The hello was acknowledged.

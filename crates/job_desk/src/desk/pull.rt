@@ -3,7 +3,7 @@ ghost use Rattle.std.specs.Prelude.{◌≡◌, length, IfSome, slice_get};
 ghost use Rattle.std.specs.Option.{option_map};
 ghost use Rattle.byte_text.specs.Sendable.{IsSendable};
 ghost use Rattle.job_desk.specs.Data.{commands_of};
-ghost use Rattle.job_desk.specs.Pull.{draw_at, from_file, from_manual, from_poll, from_probe, from_scripts, keep_number, next_number, poll_is_due, pull_step, settled, draw_in_order};
+ghost use Rattle.job_desk.specs.Pull.{draw_at, from_file, from_manual, from_poll, from_probe, from_scripts, keep_number, next_number, poll_is_due, polled_line, pull_step, settled, draw_in_order};
 ghost use Rattle.job_desk.specs.Issued.{line_of};
 ghost use Rattle.job_desk.specs.Views.{DrawsFrom};
 
@@ -75,11 +75,23 @@ impl Desk {
         })
     }
 
-    // Whether a poll is due, with every earlier one acknowledged.
+    // The line up to which all must be acknowledged before a poll. The reply to a poll has no number, so if `ok`s have numbers
+    // and no command brings one, a probe takes its place.
+    fn polled_line(&self) -> u64
+        ensures { result ≡ polled_line self.now }
+    {
+        match self.state {
+            State::Printing => self.lines.of_poll,
+            _ if self.numbered => self.lines.issued,
+            _ => self.lines.of_poll,
+        }
+    }
+
+    // Whether a poll is due.
     fn poll_is_due(&self, moment: u64) -> bool
         ensures { result ≡ poll_is_due moment self.now }
     {
-        self.poll_at <= moment && self.lines.of_poll <= u64::from(self.lines.acked)
+        self.poll_at <= moment && self.polled_line() <= u64::from(self.lines.acked)
     }
 
     // A due poll.
@@ -98,7 +110,7 @@ impl Desk {
         })
     }
 
-    // A due probe: one of this many lines isn't acknowledged, and for a while nothing more was.
+    // A due probe, in place of a poll: one of this many lines isn't acknowledged, and for a while nothing more was.
     fn take_probe(&mut self, awaited: u64, moment: u64) -> Option<Issued>
         ensures line { option_map line_of result ≡ (from_probe awaited moment self.old).0 }
         ensures after { self.new ≡ (from_probe awaited moment self.old).1 }
@@ -108,7 +120,9 @@ impl Desk {
         if !(self.numbered && self.probe_at <= moment && unacknowledged) {
             return None;
         }
-        self.probe_at = moment.saturating_add(self.poll_ms);
+        let later = moment.saturating_add(self.poll_ms);
+        self.poll_at = later;
+        self.probe_at = later;
         self.number(Tag::Poll);
         Some(Issued {
             text: bounded_text(PROBE),

@@ -1,6 +1,7 @@
 //! Worked cases: what is issued around a pause and a cancel.
 use byte_text::Name;
 
+mod early;
 mod probes;
 mod table;
 
@@ -34,6 +35,10 @@ enum Step {
     Refuses(Call),
     // A session is opened, and its hello is acknowledged.
     Opens,
+    // A link is made, and the hello isn't acknowledged yet.
+    Links,
+    // It is.
+    Greets,
     Fails,
     Issues(&'static str, Tag),
     // A script's line of print 1.
@@ -139,11 +144,19 @@ fn make(rt: &impl Abort, alloc: Global, desk: &mut Desk, call: Call) -> Result<b
     }
 }
 
-fn opens(rt: &impl Abort, desk: &mut Desk) {
+fn links(rt: &impl Abort, desk: &mut Desk) {
     assert_eq!(rt; desk.note(0, &LinkFact::Opened, 0), None);
+}
+
+fn greets(rt: &impl Abort, desk: &mut Desk) {
     let acked = desk.lines.acked;
     assert!(rt; u64::from(acked) <= desk.lines.issued);
     assert_eq!(rt; desk.note(acked, &LinkFact::Ready, 0), None);
+}
+
+fn opens(rt: &impl Abort, desk: &mut Desk) {
+    links(rt, desk);
+    greets(rt, desk);
 }
 
 fn fails(rt: &impl Abort, desk: &mut Desk) {
@@ -195,6 +208,8 @@ fn take(rt: &impl Abort, alloc: Global, desk: &mut Desk, step: Step) -> Result<(
         Step::Does(call) => answers(rt, alloc, desk, call, true)?,
         Step::Refuses(call) => answers(rt, alloc, desk, call, false)?,
         Step::Opens => opens(rt, desk),
+        Step::Links => links(rt, desk),
+        Step::Greets => greets(rt, desk),
         Step::Fails => fails(rt, desk),
         Step::Issues(text, tag) => issues(rt, desk, text, tag),
         Step::Script(text, point) => issues(rt, desk, text, Tag::Script { point, print: 1 }),

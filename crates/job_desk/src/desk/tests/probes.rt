@@ -69,15 +69,16 @@ const LAST_OK_LOST: [(u64, Event); 12] = [
     (0, Event::Issues("G28")),
     (0, Event::IssuesNothing),
     (4_999, Event::IssuesNothing),
-    (5_000, Event::Asks("M105")),
+    // A probe takes the place of the poll.
     (5_000, Event::Asks("M400")),
     (5_000, Event::IssuesNothing),
-    // Neither another poll nor, before 5000 milliseconds have passed, another probe.
+    // Neither a poll nor, before 5000 milliseconds have passed, another probe.
     (9_999, Event::IssuesNothing),
     (10_000, Event::Asks("M400")),
-    (10_001, Event::Hears(4)),
-    (10_001, Event::Asks("M105")),
-    (10_001, Event::IssuesNothing),
+    (10_001, Event::Hears(3)),
+    (14_999, Event::IssuesNothing),
+    (15_000, Event::Asks("M105")),
+    (15_000, Event::IssuesNothing),
     (15_001, Event::Asks("M400")),
 ];
 
