@@ -2,8 +2,8 @@
 use Rattle.std.proofs.Common.{◌≡◌, ℕ, ◌+◌, Bool, true, false, nat_eq, codes, List, [], ◌∷◌, Option, None, Some, refl, ap, ◌∙◌}
 use Rattle.std.specs.Prelude.{◌&&◌, Result, Ok, Err, nat_lt, length, ◌++◌}
 use Rattle.job_desk.specs.Data.{moment_after, Data, File, Line, with_script}
-use Rattle.job_desk.specs.Table.{connect_at, disconnect_at, select_at, drop_file_step, is_named, start_at, start_file, start_checked, restart_at, pause_at, resume_at, toggle_at, cancel_at, manual_at, add_manual, take_manual, is_stop, stopping, wrong_state}
-use Rattle.job_desk.specs.Pull.{Drawn, draw_in_order, nothing, next_number, keep_number, issue, from_scripts, from_manual, from_poll, poll_is_due, from_probe, probe_is_due, from_file, draw_last, draw_at, is_issued, settle_at, settled, pull_step}
+use Rattle.job_desk.specs.Table.{connect_at, disconnect_at, select_at, drop_file_step, is_named, start_at, start_file, start_checked, restart_at, pause_at, resume_at, toggle_at, cancel_at, manual_at, add_manual, take_manual, is_stop, stop_alone, stopping, may_stop_closing, wrong_state}
+use Rattle.job_desk.specs.Pull.{Drawn, draw_in_order, nothing, next_number, keep_number, issue, from_scripts, from_manual, from_poll, poll_is_due, from_probe, put_off, probe_is_due, from_file, draw_last, draw_at, is_issued, settle_at, settled, pull_step}
 use Rattle.job_desk.specs.Course.{job_line}
 use Rattle.job_desk.specs.Note.{Noted, after_ending, is_over, end_at, hung_up, fail, ready_at, after_open, note_fact, note_step, with_acked}
 use Rattle.job_desk.specs.declared.state.State.{State}
@@ -101,6 +101,11 @@ counts_takes lines d =
     choose_pair {X = Result (Unit {0}) Refusal} (λ e. Counts d e) (is_stop lines) (Ok tt, stopping lines d) (add_manual lines d) (counts_stopping lines d)
     (counts_adds lines d)
 
+counts_alone : (may : Bool) (lines : List (List ℕ)) (d : Data) → Counts d (stop_alone may lines d).1
+counts_alone may lines d =
+    choose_pair {X = Result (Unit {0}) Refusal} (λ e. Counts d e) (is_stop lines && may) (Ok tt, stopping lines d) (wrong_state d)
+    (counts_stopping lines d) (same d)
+
 pub counts_manual : (s : State) (lines : List (List ℕ)) (d : Data) → Counts d (manual_at s lines d).1
 counts_manual Operational lines d = counts_takes lines d
 counts_manual Printing lines d = counts_takes lines d
@@ -108,9 +113,8 @@ counts_manual Pausing lines d = counts_takes lines d
 counts_manual Paused lines d = counts_takes lines d
 counts_manual Cancelling lines d = counts_takes lines d
 counts_manual Finishing lines d = counts_takes lines d
-counts_manual Closing lines d =
-    choose_pair {X = Result (Unit {0}) Refusal} (λ e. Counts d e) (is_stop lines && d.ready) (Ok tt, stopping lines d) (wrong_state d)
-    (counts_stopping lines d) (same d)
+counts_manual Connecting lines d = counts_alone d.linked lines d
+counts_manual Closing lines d = counts_alone (may_stop_closing d) lines d
 counts_manual _ lines d = same d
 
 counts_settle : (s : State) (d : Data) → Counts d (settle_at s d)
@@ -219,7 +223,7 @@ counted_poll moment d next h =
 
 counted_probe : (awaited moment : ℕ) (d : Data) → Counted d (from_probe awaited moment d)
 counted_probe awaited moment d =
-    let asked : Data = record d { probe_at = moment_after moment d.poll_ms } in
+    let asked : Data = put_off moment d in
     cond_both (probe_is_due awaited moment d) _ (nothing d) (λ p. Counted d p) (λ _. counted_issue (record { text = codes "M400"; tag = Poll }) d asked refl refl)
     (λ _. counted_none d)
 

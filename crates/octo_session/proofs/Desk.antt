@@ -1,5 +1,5 @@
 -- What a turn makes of the desk.
-use Rattle.std.proofs.Common.{◌≡◌, ℕ, Bool, true, false, List, [], ◌∷◌, ◌++◌, map, refl, sym, ◌∙◌, ap, subst, append-nil}
+use Rattle.std.proofs.Common.{◌≡◌, ◌⊎◌, inl, inr, ℕ, Bool, true, false, List, [], ◌∷◌, ◌++◌, map, refl, sym, ◌∙◌, ap, subst, append-nil}
 use Rattle.std.specs.Prelude.{Option, None, Some, Ok, is_some}
 use Rattle.std.specs.Option.{option_or}
 use Rattle.std.proofs.lemmas.List.{map-append}
@@ -12,8 +12,8 @@ use Rattle.job_desk.proofs.Steady.{steady-pull, steady-note}
 use Rattle.job_desk.specs.declared.link_fact.LinkFact.{LinkFact}
 use Rattle.job_desk.specs.declared.link_fact.LinkFact.TheVariants as fact
 use Rattle.print_queue.specs.declared.ending.Ending.{Ending}
-use Rattle.send_window.specs.Data.{SenderData}
-use Rattle.octo_session.specs.Data.{IsJoined}
+use Rattle.send_window.specs.Data.{SenderData, NoneEarly}
+use Rattle.octo_session.specs.Data.{IsJoined, IsStopped}
 use Rattle.octo_session.specs.DeskTurn.{Pulls, IsNoted, last_noted}
 use Rattle.octo_session.specs.Steps.{Step, issues, after_steps, AreAllowed, Issues, issuing}
 use Rattle.job_desk.specs.Issued.{line_of}
@@ -24,6 +24,7 @@ use Rattle.octo_session.specs.Found.{up_after}
 use Rattle.octo_session.specs.Turn.{lines_drawn, texts_in, is_unbroken}
 use Rattle.octo_session.proofs.Stepping.{after_steps-append, allowed_then}
 use Rattle.octo_session.proofs.Counts.{Counts}
+use Rattle.octo_session.proofs.Links.{Links}
 use Rattle.byte_text.proofs.OptionLaws.{none-if-false}
 
 -- one more pull with a line
@@ -69,13 +70,19 @@ noted_greatest moment acknowledged found lines old ending new noted =
     ∙ pulls_greatest moment lines first.1 noted.pulled noted.pulls
     ∙ (steady-note acknowledged (first_fact found) moment old).greatest
 
--- a call of the desk that counts alike leaves it joined
-pub joined_by : (d e : Data) (s : SenderData) (open_link : Bool) → IsJoined d s open_link → Counts d e → IsJoined e s open_link
-joined_by d e s open_link joined counts = record {
+-- a call of the desk that counts alike and leaves its link leaves it joined
+pub joined_by : (d e : Data) (s : SenderData) (open_link : Bool) → IsJoined d s open_link → Counts d e → Links d e → IsJoined e s open_link
+joined_by d e s open_link joined counts links = record {
   issued = counts.issued ∙ joined.issued;
   acked = counts.acked ∙ joined.acked;
   running = joined.running;
+  linked = links.linked ∙ joined.linked;
+  early = λ is_open. still (joined.early is_open);
 }
+  where
+    still : NoneEarly s ⊎ IsStopped d → NoneEarly s ⊎ IsStopped e
+    still (inl early) = inl early
+    still (inr st) = inr (links.stopped st)
 
 -- a pull that drew a line, which was issued
 pub record Pulled (moment : ℕ) (d : Data) (s t : SenderData) : Type 0 where
@@ -125,6 +132,13 @@ pull_idle moment d e is_settled none after = after ∙ settled_by_steps.idle_pul
 pub pull_again : (moment : ℕ) (d e : Data) → settled d ≡ d → is_some (pull_step moment d).0 ≡ false → e ≡ (pull_step moment d).1 → (pull_step moment e).0 ≡ None
 pull_again moment d e is_settled none after =
     ap (λ (x : Data). (pull_step moment x).0) (pull_idle moment d e is_settled none after) ∙ none-if-false (pull_step moment d).0 none
+
+-- a pull without a line leaves the sender as it is
+pub issues_none : (moment : ℕ) (d : Data) (s t : SenderData) → is_some (pull_step moment d).0 ≡ false →
+    Issues moment (texts_in (lines_drawn (pull_step moment d).0)) s t → t ≡ s
+issues_none moment d s t none after =
+    let left : Option Line → SenderData = λ got. after_steps moment (issuing (texts_in (lines_drawn got))) s in
+    after.sender ∙ ap left (none-if-false (pull_step moment d).0 none)
 
 pub pull_settles : (moment : ℕ) (d e : Data) → e ≡ (pull_step moment d).1 → settled e ≡ e
 pull_settles moment d e after = ap settled after ∙ settled_by_steps.by_pull moment d ∙ sym after

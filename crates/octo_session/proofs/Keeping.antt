@@ -1,17 +1,20 @@
 -- What the steps of a turn leave of a sender.
-use Rattle.std.proofs.Common.{◌≡◌, ◌≢◌, ◌⊎◌, ℕ, ◌+◌, ◌-◌, ◌<◌, ◌≤◌, zero, suc, Bool, true, false, List, [], ◌∷◌, refl, sym, ◌∙◌, subst, arith}
+use Rattle.std.proofs.Common.{◌≡◌, ◌≢◌, ◌⊎◌, inl, inr, ℕ, ◌+◌, ◌-◌, ◌<◌, ◌≤◌, zero, suc, Bool, true, false, List, [], ◌∷◌, refl, sym, ◌∙◌, subst, arith}
 use Rattle.std.specs.Prelude.{None}
 use Rattle.std.proofs.lemmas.Grind.{common_steps}
+use Rattle.marlin_reply.specs.Kind.{kind_of}
 use Rattle.marlin_reply.specs.declared.reply.Reply.{Reply}
 use Rattle.marlin_reply.specs.declared.reply.Reply.TheVariants as reply
-use Rattle.send_window.specs.Data.{SenderData, IsSound}
+use Rattle.send_window.specs.Data.{SenderData, IsSound, NoneEarly}
 use Rattle.send_window.specs.Hearing.{hear_step, tick_step}
 use Rattle.send_window.specs.Sending.{next_of, room_of, last_room_of, frame_step, push_step}
 use Rattle.job_desk.specs.Data.{Data}
 use Rattle.job_desk.specs.Pull.{pull_step}
 use Rattle.job_desk.specs.Table.{is_stopping}
+use Rattle.octo_session.specs.Data.{IsStopped}
 use Rattle.octo_session.specs.Turn.{IsSpent}
-use Rattle.octo_session.specs.Steps.{after_steps, issuing, sends}
+use Rattle.octo_session.specs.Found.{Got, unasked, lost, nothing, whole}
+use Rattle.octo_session.specs.Steps.{after_steps, issuing, received_by, sends}
 
 -- what issuing and sending leave as it is
 pub record Keeps (s t : SenderData) : Type 0 where
@@ -70,6 +73,7 @@ unmoved_sends moment false (suc count) s =
 pub record Said (s p q : SenderData) : Type 0 where
   pub keeps : Keeps s q
   pub acked : p.acked ≡ s.acked
+  pub was_ready : p.ready ≡ q.ready
   pub issued : q.issued ≡ p.issued
   pub room : room_of q ≡ room_of p
   pub last : last_room_of q ≡ last_room_of p
@@ -81,11 +85,25 @@ said moment texts all count s p q first second =
     let U : SenderData → Type 0 = λ t. Unmoved p t in
     let issued_lines : Keeps s p = subst K (sym first) (keeps_issuing moment texts s) in
     let sent : Unmoved p q = subst U (sym second) (unmoved_sends moment all count p) in
-    record { keeps = keeps_then s p q issued_lines sent.keeps; acked = issued_lines.acked; issued = sent.issued; room = sent.room; last = sent.last }
+    record { keeps = keeps_then s p q issued_lines sent.keeps; acked = issued_lines.acked; was_ready = sym sent.keeps.ready; issued = sent.issued; room = sent.room; last = sent.last }
+
+-- what is sent leaves it so
+pub said_early : (s p q : SenderData) → Said s p q → NoneEarly p → NoneEarly q
+said_early s p q kept early = λ unready. (
+    let same : p.ready ≡ q.ready = kept.was_ready in kept.issued ∙ early (same ∙ unready)
+    )
+
+pub stays_early : (s p q : SenderData) (d : Data) → Said s p q → NoneEarly p ⊎ IsStopped d → NoneEarly q ⊎ IsStopped d
+stays_early s p q d kept (inl early) = inl (said_early s p q kept early)
+stays_early s p q d kept (inr st) = inr st
 
 -- a line takes one place
 pub room_push : (text : List ℕ) (s : SenderData) → IsSound s → 0 < room_of s → room_of (push_step text s) + 1 ≡ room_of s
 room_push text s sound room = grind (arith, common_steps)
+
+-- the window has room only after the `ok` of the hello, and then no line is early
+pub room_early : (text : List ℕ) (s : SenderData) → 0 < room_of s → NoneEarly (push_step text s)
+room_early text s room = λ unready. grind (arith, common_steps)
 
 -- a line may be issued if the window has room
 pub room_last : (s : SenderData) → room_of s ≤ last_room_of s
@@ -145,6 +163,31 @@ issued_heard (reply.Temps _) moment s = grind (arith, common_steps)
 issued_heard reply.Error moment s = grind (arith, common_steps)
 issued_heard reply.Other moment s = grind (arith, common_steps)
 
+-- what a turn's receiving leaves of a sender
+pub record HasHeard (moment : ℕ) (s t : SenderData) : Type 0 where
+  pub issued : t.issued ≡ s.issued
+  pub acked : s.acked ≤ t.acked
+  pub lasts : s.ready ≡ true → t.ready ≡ true
+  pub goes_on : s.ready ≡ false → t.ready ≡ true → (tick_step moment t).ended ≡ None
+
+heard_nothing : (moment : ℕ) (s : SenderData) → HasHeard moment s s
+heard_nothing moment s =
+    record { issued = refl; acked = omega arith; lasts = λ ready. ready; goes_on = λ (unready : s.ready ≡ false) (ready : s.ready ≡ true). absurd (cc) }
+
+heard_got : (got : Got) (moment : ℕ) (s : SenderData) → s.ended ≡ None → HasHeard moment s (after_steps moment (received_by got) s)
+heard_got unasked moment s running = heard_nothing moment s
+heard_got lost moment s running = heard_nothing moment s
+heard_got nothing moment s running = heard_nothing moment s
+heard_got (whole bytes) moment s running = record {
+  issued = issued_heard (kind_of bytes) moment s;
+  acked = acked_heard (kind_of bytes) moment s;
+  lasts = ready_lasts (kind_of bytes) moment s;
+  goes_on = ready_goes_on (kind_of bytes) moment s running;
+}
+
+pub has_heard : (got : Got) (moment : ℕ) (s t : SenderData) → s.ended ≡ None → t ≡ after_steps moment (received_by got) s → HasHeard moment s t
+has_heard got moment s t running after = subst (λ (x : SenderData). HasHeard moment s x) (sym after) (heard_got got moment s running)
+
 -- a tick issues and acknowledges nothing
 pub record Ticked (s t : SenderData) : Type 0 where
   pub issued : t.issued ≡ s.issued
@@ -153,6 +196,14 @@ pub record Ticked (s t : SenderData) : Type 0 where
 
 pub ticked_keeps : (moment : ℕ) (s : SenderData) → Ticked s (tick_step moment s)
 ticked_keeps moment s = grind (arith, common_steps)
+
+-- a tick issues none, nor is one early in a ready session
+pub ticked_early : (moment : ℕ) (was_ready : Bool) (s : SenderData) → (was_ready ≡ true → s.ready ≡ true) → (was_ready ≡ false → s.issued ≡ 0) →
+    NoneEarly (tick_step moment s)
+ticked_early moment true s lasts fresh = λ unready. (
+    let ready : (tick_step moment s).ready ≡ true = (ticked_keeps moment s).ready ∙ lasts refl in absurd (cc)
+    )
+ticked_early moment false s lasts fresh = λ unready. ((ticked_keeps moment s).issued ∙ fresh refl)
 
 -- what is spent before the frames are sent is spent after it
 pub spent_after : (moment : ℕ) (before d : Data) (p q : SenderData) → room_of q ≡ room_of p → last_room_of q ≡ last_room_of p →

@@ -3,6 +3,7 @@ pub mod Counts
 pub mod Desk
 pub mod Endings
 pub mod Keeping
+pub mod Links
 pub mod Noting
 pub mod Stepping
 pub mod Stopping

@@ -1,6 +1,6 @@
 -- How the steps of a turn join.
 use Rattle.std.proofs.Common.{◌≡◌, ℕ, zero, suc, Bool, true, false, List, [], ◌∷◌, ◌++◌, Option, replicate, refl, sym, ◌∙◌, ap, subst, append_assoc, append-nil, arith}
-use Rattle.std.specs.Prelude.{None, Some, IfSome, is_some, ◌+◌, ◌≤◌, ◌&&◌}
+use Rattle.std.specs.Prelude.{None, Some, IfSome, is_some, ◌&&◌}
 use Rattle.std.specs.Option.{option_map}
 use Rattle.send_window.specs.Sending.{Outgoing, number_of_outgoing, bytes_of_outgoing}
 use Rattle.std.proofs.lemmas.List.{append_cancel_left}

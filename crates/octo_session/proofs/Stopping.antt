@@ -1,5 +1,5 @@
 -- The line that stops the printer is pulled, and then none.
-use Rattle.std.proofs.Common.{◌≡◌, ℕ, Bool, true, List, [], ◌∷◌, refl, ◌∙◌, ap, arith}
+use Rattle.std.proofs.Common.{◌≡◌, ℕ, Bool, true, List, [], ◌∷◌, refl, sym, ◌∙◌, ap, subst, arith}
 use Rattle.std.specs.Prelude.{◌&&◌, ◌==◌, length, None, Some, is_some}
 use Rattle.std.proofs.lemmas.Bool.{false≢true, and_parts}
 use Rattle.std.proofs.lemmas.Bool.Decides.{nat_tests}
@@ -11,6 +11,7 @@ use Rattle.job_desk.specs.declared.link_fact.LinkFact.TheVariants as fact
 use Rattle.job_desk.specs.declared.state.State.{State}
 use Rattle.job_desk.specs.declared.state.State.TheVariants.{Offline, Connecting, Operational, Printing, Pausing, Paused, Cancelling, Finishing, Closing, Fault}
 use Rattle.job_desk.specs.declared.state.Tag.TheVariants.{Manual}
+use Rattle.octo_session.specs.Data.{IsStopped}
 
 -- a desk that stops the printer, with the line that does it
 record Stops (d : Data) : Type 0 where
@@ -48,6 +49,7 @@ stops_at Fault d at e = absurd (false≢true e)
 pub record StopPulled (moment : ℕ) (d : Data) : Type 0 where
   pub some : is_some (pull_step moment d).0 ≡ true
   pub then_none : (pull_step moment (pull_step moment d).1).0 ≡ None
+  pub leaves : IsStopped (pull_step moment d).1
 
 pub stop_pulled : (moment : ℕ) (d : Data) → is_stopping d ≡ true → StopPulled moment d
 stop_pulled moment d e =
@@ -62,6 +64,7 @@ stop_pulled moment d e =
     record {
       some = ap (λ (x : Drawn). is_some x.0) drew;
       then_none = ap (λ (x : Data). (pull_step moment x).0) after ∙ none;
+      leaves = subst IsStopped (sym after) (record { closes = stop.at; stops = stop.stops; issued = refl });
     }
 
 -- a quiet note leaves such a desk

@@ -10,10 +10,11 @@ use Rattle.send_window.specs.Counting.{IsUnbegun, is_resend}
 use Rattle.printer_model.specs.Executed.{opens}
 use Rattle.printer_model.specs.declared.event.WorldEvent.TheVariants.{Opened}
 use Rattle.printer_link.specs.Link.{LinkKind, world_in}
+use Rattle.octo_session.specs.Sends.{traffic_from}
 
 -- the printer is silent: the hello has no `ok` yet, or at least four lines were sent since a reply was received
 abbrev pub IsSilentSince : Bool → WorldData → List WorldEvent → Type 0
-IsSilentSince numbered made rest = IsUnbegun numbered (replies_from made rest) ⊎ (4 ≤ sends_since 0 rest)
+IsSilentSince numbered made rest = IsUnbegun numbered (traffic_from made rest) ⊎ (4 ≤ sends_since 0 rest)
 
 -- the printer asks for an acknowledged line only if `ok`s count by their numbers and it restarted
 abbrev pub MayAskBack : Bool → List WorldEvent → Type 0

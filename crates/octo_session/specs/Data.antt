@@ -1,10 +1,10 @@
 -- The session as plain data.
-use Rattle.std.specs.Prelude.{◌≡◌, ℕ, Bool, true, false, ◌&&◌, not, if◌then◌else◌, List, [], None, unwrap_or}
+use Rattle.std.specs.Prelude.{◌≡◌, ◌⊎◌, ℕ, Bool, true, false, ◌&&◌, not, if◌then◌else◌, List, [], None, unwrap_or}
 use Rattle.job_desk.specs.Data.{Data}
 use Rattle.job_desk.specs.Table.{is_closable_at}
 use Rattle.job_desk.specs.declared.state.State.{State}
 use Rattle.job_desk.specs.declared.state.State.TheVariants.{Offline, Connecting, Operational, Printing, Pausing, Paused, Cancelling, Finishing, Closing, Fault}
-use Rattle.send_window.specs.Data.{SenderData}
+use Rattle.send_window.specs.Data.{SenderData, NoneEarly}
 use Rattle.octo_session.specs.declared.found.Doing.{Doing}
 use Rattle.octo_session.specs.declared.found.Doing.TheVariants.{Dialling, HangingUp, UsingLink, Resting}
 
@@ -15,11 +15,20 @@ pub record SessionData : Type 0 where
   -- whether the link is up
   pub up : Bool
 
--- desk and sender count the same lines, and the sender of an open link hasn't ended
+-- the line that stops the printer was issued: the next turn hangs up
+pub record IsStopped (d : Data) : Type 0 where
+  pub closes : d.state ≡ Closing
+  pub stops : d.stopped ≡ true
+  pub issued : d.manual ≡ []
+
+-- desk and sender count the same lines, the desk knows whether the link is open, and the sender of an open link hasn't ended; that one
+-- issued no line before the `ok` of the hello, but for the one that stops the printer
 pub record IsJoined (d : Data) (s : SenderData) (open_link : Bool) : Type 0 where
   pub issued : d.issued ≡ s.issued
   pub acked : d.acked ≡ s.acked
   pub running : open_link ≡ true → s.ended ≡ None
+  pub linked : d.linked ≡ open_link
+  pub early : open_link ≡ true → NoneEarly s ⊎ IsStopped d
 
 -- a session holds between its calls
 abbrev pub IsSession : SessionData → Type 0

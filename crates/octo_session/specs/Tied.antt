@@ -1,12 +1,12 @@
 -- How the issued texts, the acknowledged lines and a history are tied together, session by session.
 use Rattle.std.specs.Prelude.{◌≡◌, ℕ, pred, ◌≤◌, Bool, List, [], length, take, suc, ◌++◌}
 use Rattle.printer_model.specs.Executed.{till, executed, logged_from, opens}
-use Rattle.printer_model.specs.Exchanged.{events_of_session, replies_from}
+use Rattle.printer_model.specs.Exchanged.{events_of_session}
 use Rattle.printer_model.specs.World.{WorldData}
 use Rattle.printer_model.specs.declared.event.WorldEvent.{WorldEvent}
 use Rattle.printer_link.specs.Link.{LinkKind, world_in}
 use Rattle.send_window.specs.Counting.{acked_as}
-use Rattle.octo_session.specs.Sends.{AreSendsFit}
+use Rattle.octo_session.specs.Sends.{AreSendsFit, traffic_from}
 
 -- the world before session s of a history
 abbrev pub world_before : LinkKind → List WorldEvent → ℕ → WorldData
@@ -19,10 +19,11 @@ pub record IsTied (numbered : Bool) (kind : LinkKind) (issued : List (List ℕ))
   pub executed_first :
       executed kind.slots kind.oks past s
       ≡ logged_from 1 (take (length (executed kind.slots kind.oks past s)) issued)
-  -- the acknowledged lines are counted over the received replies, and all of them were executed
-  pub acked_is : acked ≡ acked_as numbered (replies_from (world_before kind past s) (events_of_session s past))
+  -- the acknowledged lines are counted over the replies received and, if `ok`s count by their numbers, the lines sent; and all of
+  -- them were executed
+  pub acked_is : acked ≡ acked_as numbered (traffic_from (world_before kind past s) (events_of_session s past))
   pub acked_run : acked ≤ length (executed kind.slots kind.oks past s)
-  -- each line that was sent is the hello or an issued line above acked; one that failed is the last one
+  -- each line that was sent is a hello or an issued line above acked; one that failed is the last one
   pub sends : AreSendsFit numbered issued [] (world_before kind past s) (events_of_session s past)
 
 -- lines of these texts were issued, and this number of them acknowledged, in a history that grew by these events

@@ -6,10 +6,10 @@ ghost use Rattle.job_desk.specs.Table.{is_stopping};
 ghost use Rattle.job_desk.specs.Issued.{line_of};
 ghost use Rattle.job_desk.specs.declared.link_fact.LinkFact.TheVariants as fact;
 ghost use Rattle.send_window.specs.declared.session_end.SessionEnd.{SessionEnd};
-ghost use Rattle.send_window.specs.Data.{IsSound};
+ghost use Rattle.send_window.specs.Data.{IsSound, NoneEarly};
 ghost use Rattle.send_window.specs.Hearing.{tick_step};
 ghost use Rattle.send_window.specs.Sending.{next_of, room_of, last_room_of};
-ghost use Rattle.octo_session.specs.Data.{IsJoined};
+ghost use Rattle.octo_session.specs.Data.{IsJoined, IsStopped};
 ghost use Rattle.octo_session.specs.DeskTurn.{IsNoted, Pulls};
 ghost use Rattle.octo_session.specs.Found.{got_of, temps_kept, temps_in, temps_of_reply, is_got, may_have_issued, up_after, can_find, unasked};
 ghost use Rattle.octo_session.specs.Steps.{Takes, TakesSome, Issues, received_by, sends, issues_then_sends, clock_steps, steps_over_link};
@@ -108,13 +108,14 @@ fn pull_one(
     }
 }
 
-// Issues the line that stops the printer, which may be one past the window.
+// Issues the line that stops the printer, which may be one past the window, or come before the `ok` of the hello.
 fn pull_last(desk: &mut Desk, sender: &mut Sender, moment: u64) -> ArrayVec<Issued, 16>
     requires stops { is_stopping desk.old ≡ true }
     requires counted { desk.old.issued ≡ sender.old.issued }
     ensures pulls { Pulls moment (map line_of result.items) desk.old desk.new }
     ensures steps { Issues moment (texts_in (map line_of result.items)) sender.old sender.new }
     ensures spent { (last_room_of sender.new ≡ 0) ⊎ ((pull_step moment desk.new).0 ≡ None) }
+    ensures early { NoneEarly sender.old → NoneEarly sender.new ⊎ IsStopped desk.new }
     ensures issued { desk.new.issued ≡ sender.new.issued }
     ensures acked { desk.new.acked ≡ desk.old.acked }
     ensures sound { IsSound sender.new }
@@ -134,6 +135,7 @@ fn pull_more(desk: &mut Desk, sender: &mut Sender, moment: u64) -> ArrayVec<Issu
     ensures pulls { Pulls moment (map line_of result.items) desk.old desk.new }
     ensures steps { Issues moment (texts_in (map line_of result.items)) sender.old sender.new }
     ensures spent { (room_of sender.new ≡ 0) ⊎ ((pull_step moment desk.new).0 ≡ None) }
+    ensures early { NoneEarly sender.old → NoneEarly sender.new }
     ensures issued { desk.new.issued ≡ sender.new.issued }
     ensures acked { desk.new.acked ≡ desk.old.acked }
     ensures sound { IsSound sender.new }
@@ -156,6 +158,7 @@ fn pull_all(desk: &mut Desk, sender: &mut Sender, moment: u64) -> ArrayVec<Issue
     ensures spent { (room_of sender.new ≡ 0) ⊎ ((pull_step moment desk.new).0 ≡ None) }
     ensures stopped { is_stopping desk.old ≡ true
         → (last_room_of sender.new ≡ 0) ⊎ ((pull_step moment desk.new).0 ≡ None) }
+    ensures early { NoneEarly sender.old → NoneEarly sender.new ⊎ IsStopped desk.new }
     ensures issued { desk.new.issued ≡ sender.new.issued }
     ensures acked { desk.new.acked ≡ desk.old.acked }
     ensures sound { IsSound sender.new }
@@ -230,6 +233,8 @@ fn issue_and_send<L: Link>(
     requires running { sender.old.ended ≡ None }
     requires counted { desk.old.issued ≡ sender.old.issued }
     requires not_fallen { desk.old.acked ≤ sender.old.acked }
+    requires linked { desk.old.linked ≡ true }
+    requires early { NoneEarly sender.old }
 
     // What it found, which the desk noted.
     ensures finds { (result.fact ≡ fact.Quiet) ⊎ (result.fact ≡ fact.Failed) }
@@ -288,6 +293,7 @@ fn after_receiving<L: Link>(
     requires goes_on { was_ready ≡ false → sender.old.ready ≡ true
         → (tick_step moment sender.old).ended ≡ None }
     requires fresh { was_ready ≡ false → sender.old.issued ≡ 0 }
+    requires linked { desk.old.linked ≡ true }
 
     // What it found, which the desk noted.
     ensures finds { can_find doing_now.UsingLink result.fact ≡ true }
@@ -339,6 +345,7 @@ pub fn receive_then_send<L: Link>(
 ) -> Found
     requires open { L.up link.old ≡ true }
     requires joined { IsJoined desk.old sender.old true }
+    requires early { NoneEarly sender.old }
 
     // What it found, which the desk noted.
     ensures finds { can_find doing_now.UsingLink result.fact ≡ true }

@@ -42,7 +42,8 @@ impl Model for Session {
 }
 
 impl Session {
-    /// A session of a new desk and a new sender. The link is not up.
+    /// A session of a new desk and a new sender, which are of one kind: both by numbered `ok`s, or both by counted ones. The
+    /// link is not up.
     pub fn new(desk: Desk, sender: Sender) -> Session
         requires new_desk { desk ≡ new_desk desk.scripts desk.limits desk.poll_ms desk.numbered }
         requires new_sender { sender
@@ -90,8 +91,8 @@ impl Session {
     /// 2. If the desk may close the connection, it hangs up.
     /// 3. If the link is up, it receives at most one reply line, has the sender hear it and the clock tick, and notes at
     ///    the desk what is acknowledged. Then it issues lines while the window has room, and sends every frame. A line that stops
-    ///    the printer is issued alone, past the window if that is full. In the turn in which the hello is acknowledged it issues
-    ///    nothing.
+    ///    the printer is issued alone, past the window if that is full, and before the hello is acknowledged too. In the turn in
+    ///    which the hello is acknowledged it issues nothing.
     ///
     /// If a call of the link fails the desk first takes what was acknowledged, and the failure at the end. It takes no
     /// memory. The moment is in milliseconds.

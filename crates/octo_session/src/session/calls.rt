@@ -1,7 +1,7 @@
 //! The calls of the desk, which a session hands on: they change the desk alone.
-ghost use Rattle.std.specs.Prelude.{◌≡◌, ◌<◌, false, Ok, Err, MatchResult, All};
+ghost use Rattle.std.specs.Prelude.{◌≡◌, ◌↔◌, ◌<◌, true, false, Ok, Err, MatchResult, All};
 ghost use Rattle.byte_text.specs.Sendable.{IsSendable};
-ghost use Rattle.job_desk.specs.Table.{cancel_at, connect_at, disconnect_at, drop_file_step, manual_at, pause_at, restart_at, resume_at, select_at, start_at, toggle_at};
+ghost use Rattle.job_desk.specs.Table.{cancel_at, connect_at, disconnect_at, drop_file_step, is_stop, manual_at, pause_at, restart_at, resume_at, select_at, start_at, toggle_at};
 ghost use Rattle.job_desk.specs.Data.{named_file};
 ghost use Rattle.job_desk.specs.Views.{bytes_of};
 ghost use Rattle.octo_session.specs.Data.{IsSession, doing};
@@ -131,7 +131,7 @@ impl Session {
     /// and Finishing, and as Full if more than 256 lines would wait.
     ///
     /// If the only line is `M112` it stops the printer, as `Desk::manual` says: the next turn over the link issues it alone, past
-    /// the window if that is full, and the turn after it hangs up.
+    /// the window if that is full, and the turn after it hangs up. While the desk connects it is taken exactly if the link is up.
     pub fn manual(&mut self, lines: &[Text]) -> Result<(), Refusal>
         requires { All IsSendable (bytes_of lines.now) }
         ensures answer { result
@@ -141,6 +141,8 @@ impl Session {
               desk = (manual_at self.old.desk.state (bytes_of lines.now)
                   self.old.desk).1;
             } }
+        ensures early { self.old.desk.state ≡ state.Connecting → is_stop (bytes_of lines.now) ≡ true
+            → (result ≡ Ok tt) ↔ (self.old.up ≡ true) }
         ensures joined { IsSession self.new }
     {
         self.desk.manual(lines)

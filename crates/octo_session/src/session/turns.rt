@@ -6,7 +6,7 @@ ghost use Rattle.job_desk.specs.Issued.{line_of};
 ghost use Rattle.job_desk.specs.declared.link_fact.LinkFact.TheVariants as fact;
 ghost use Rattle.printer_link.specs.Link.{HasSlots, Grows, IsDial, IsNothing, IsRuns, RoseBy, counted_one, dial_events};
 ghost use Rattle.printer_link.specs.declared.link.LinkFault.TheVariants as fault;
-ghost use Rattle.send_window.specs.Data.{sender_after_dial};
+ghost use Rattle.send_window.specs.Data.{NoneEarly, sender_after_dial};
 ghost use Rattle.octo_session.specs.Data.{IsSession, doing, is_calling, port_of};
 ghost use Rattle.octo_session.specs.DeskTurn.{IsNoted};
 ghost use Rattle.octo_session.specs.Found.{got_of, up_after, can_find, unasked};
@@ -62,6 +62,7 @@ impl Session {
         ensures is { result ≡ doing self.now }
         ensures shut { result ≡ now_doing.Dialling → self.now.up ≡ false }
         ensures open { result ≡ now_doing.UsingLink → self.now.up ≡ true }
+        ensures early { result ≡ now_doing.UsingLink → NoneEarly self.now.sender }
         ensures joined { IsSession self.now }
         ensures active { IsActive self.now.desk }
     {
@@ -174,6 +175,7 @@ impl Session {
     // A turn while the link is up: it receives, then issues and sends.
     fn turn_while_up<L: Link>(&mut self, link: &mut L, moment: u64, line: &mut ReplyLine) -> Found
         requires open { self.old.up ≡ true }
+        requires early { NoneEarly self.old.sender }
         requires up { L.up link.old ≡ true }
 
         // What it found, which the desk noted.

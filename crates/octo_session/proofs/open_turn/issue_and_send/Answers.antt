@@ -1,10 +1,11 @@
-use Rattle.std.proofs.Common.{true, false, map, refl, sym, ◌∙◌, arith}
+use Rattle.std.proofs.Common.{◌≡◌, true, false, map, refl, sym, ◌∙◌, arith}
 use Rattle.job_desk.specs.Issued.{line_of}
 use Rattle.job_desk.specs.declared.link_fact.LinkFact.TheVariants as fact
 use Rattle.octo_session.specs.Turn.{texts_in}
 use Rattle.octo_session.proofs.Counts.{noted_issued, noted_acked}
 use Rattle.octo_session.proofs.Desk.{noted_quiet, noted_failed}
-use Rattle.octo_session.proofs.Keeping.{said, spent_after}
+use Rattle.octo_session.proofs.Keeping.{said, stays_early, spent_after}
+use Rattle.octo_session.proofs.Links.{linked_note, linked_pulls}
 use Rattle.octo_session.proofs.Stepping.{takes_said}
 use Rattle.octo_session.proofs.Stopping.{note_stops}
 use Rattle.octo_session.proofs.open_turn.issue_and_send.Goals as goal
@@ -39,6 +40,11 @@ returns-then-send_all-clause-joined g c =
       acked = c.pull_all-issued.ensures.acked ∙ noted_acked c.acked-acked.result fact.Quiet c.args.moment c.args.desk.now c.note-first.new.self refl
           c.note-first.ensures.after ∙ c.acked-acked.ensures.acked ∙ sym kept.keeps.acked;
       running = λ is_open. kept.keeps.ended ∙ c.requires.running;
+      linked = linked_pulls c.args.moment (map line_of c.pull_all-issued.result.items) c.note-first.new.self c.pull_all-issued.new.desk
+          c.pull_all-issued.ensures.pulls ∙ linked_note c.acked-acked.result fact.Quiet c.args.moment c.args.desk.now c.note-first.new.self (λ (e : fact.Quiet ≡ fact.Ready). absurd (cc))
+          c.note-first.ensures.after ∙ c.requires.linked;
+      early = λ is_open. stays_early c.args.sender.now c.pull_all-issued.new.sender c.send_all.new.sender c.pull_all-issued.new.desk kept
+          (c.pull_all-issued.ensures.early c.requires.early);
     }
 
 pub returns-then-send_all-clause-ready : goal.returns-then-send_all-clause-ready
@@ -83,6 +89,8 @@ returns-clause-joined g c =
       acked = noted_acked c.acked-acked.result fact.Failed c.args.moment c.pull_all-issued.new.desk c.note-last.new.self refl c.note-last.ensures.after
           ∙ c.acked-acked.ensures.acked ∙ sym kept.keeps.acked;
       running = λ is_open. absurd (cc is_open);
+      linked = linked_note c.acked-acked.result fact.Failed c.args.moment c.pull_all-issued.new.desk c.note-last.new.self (λ (e : fact.Failed ≡ fact.Ready). absurd (cc)) c.note-last.ensures.after;
+      early = λ is_open. absurd (cc is_open);
     }
 
 pub returns-clause-ready : goal.returns-clause-ready

@@ -1,12 +1,12 @@
-use Rattle.std.proofs.Common.{inr, ◌≡◌, ◌+◌, map, sym, ap, ◌∙◌, arith}
+use Rattle.std.proofs.Common.{inr, ◌≡◌, ◌+◌, map, sym, ap, subst, ◌∙◌, arith}
 use Rattle.job_desk.specs.Data.{Data}
 use Rattle.job_desk.specs.Pull.{next_number}
 use Rattle.job_desk.specs.Issued.{line_of}
-use Rattle.send_window.specs.Data.{SenderData}
+use Rattle.send_window.specs.Data.{SenderData, NoneEarly}
 use Rattle.send_window.specs.Sending.{room_of, push_step}
 use Rattle.octo_session.proofs.Counts.{counted_pull, pull_some}
-use Rattle.octo_session.proofs.Desk.{pull_again, pull_settles, pulled_by, pulls_next, issuing_next}
-use Rattle.octo_session.proofs.Keeping.{room_push}
+use Rattle.octo_session.proofs.Desk.{issues_none, pull_again, pull_idle, pull_settles, pulled_by, pulls_next, issuing_next}
+use Rattle.octo_session.proofs.Keeping.{room_early, room_push}
 use Rattle.octo_session.proofs.open_turn.pull_more.Goals as goal
 
 pub returns-then-not-pull_one-clause-spent : goal.returns-then-not-pull_one-clause-spent
@@ -14,6 +14,25 @@ returns-then-not-pull_one-clause-spent c =
     let i = c.loop.invariant in
     inr (pull_again c.args.moment c.loop.desk c.pull_one.new.desk i.is_settled (sym c.pull_one.ensures.answer ∙ c.if-not-pull_one.true)
     c.pull_one.ensures.after)
+
+pub returns-then-not-pull_one-clause-issued : goal.returns-then-not-pull_one-clause-issued
+returns-then-not-pull_one-clause-issued c =
+    let i = c.loop.invariant in
+    let e = c.pull_one.ensures in
+    let none = sym e.answer ∙ c.if-not-pull_one.true in
+    ap (λ (d : Data). d.issued) (pull_idle c.args.moment c.loop.desk c.pull_one.new.desk i.is_settled none e.after) ∙ i.issued
+    ∙ sym (ap (λ (s : SenderData). s.issued) (issues_none c.args.moment c.loop.desk c.loop.sender c.pull_one.new.sender none e.steps))
+
+pub returns-then-not-pull_one-clause-acked : goal.returns-then-not-pull_one-clause-acked
+returns-then-not-pull_one-clause-acked c =
+    let i = c.loop.invariant in
+    let e = c.pull_one.ensures in
+    ap (λ (d : Data). d.acked) (pull_idle c.args.moment c.loop.desk c.pull_one.new.desk i.is_settled (sym e.answer ∙ c.if-not-pull_one.true) e.after) ∙ i.acked
+
+pub returns-then-not-pull_one-clause-early : goal.returns-then-not-pull_one-clause-early
+returns-then-not-pull_one-clause-early c early =
+    let e = c.pull_one.ensures in
+    subst NoneEarly (sym (issues_none c.args.moment c.loop.desk c.loop.sender c.pull_one.new.sender (sym e.answer ∙ c.if-not-pull_one.true) e.steps)) (c.loop.invariant.early early)
 
 pub loop-preserved : goal.loop-preserved
 loop-preserved c =
@@ -38,4 +57,6 @@ loop-preserved c =
       issued = omega (arith, counted, pushed, i.issued, i.sound.few);
       acked = ap (λ (d : Data). d.acked) e.after ∙ (counted_pull c.args.moment c.loop.desk).acked ∙ i.acked;
       is_settled = pull_settles c.args.moment c.loop.desk c.pull_one.new.desk e.after;
+      early = λ _. subst NoneEarly (sym one.pushed)
+          (room_early one.line.text c.loop.sender (omega (arith, i.room, c.loop-test.true, c.room-end.ensures.room)));
     }

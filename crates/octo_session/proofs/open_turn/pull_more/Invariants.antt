@@ -1,7 +1,7 @@
 use Rattle.std.proofs.Common.{◌≡◌, ◌+◌, length, map}
 use Rattle.job_desk.specs.Pull.{settled}
 use Rattle.job_desk.specs.Issued.{line_of}
-use Rattle.send_window.specs.Data.{IsSound}
+use Rattle.send_window.specs.Data.{IsSound, NoneEarly}
 use Rattle.send_window.specs.Sending.{room_of}
 use Rattle.octo_session.specs.DeskTurn.{Pulls}
 use Rattle.octo_session.specs.Steps.{Issues}
@@ -18,4 +18,5 @@ invariant-loop l = record {
   issued : l.desk.issued ≡ l.sender.issued;
   acked : l.desk.acked ≡ l.initial.desk.acked;
   is_settled : settled l.desk ≡ l.desk;
+  early : NoneEarly l.initial.sender → NoneEarly l.sender;
 }

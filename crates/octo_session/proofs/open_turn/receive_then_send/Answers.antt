@@ -1,10 +1,11 @@
-use Rattle.std.proofs.Common.{◌≡◌, inr, true, map, sym, ap, subst, ◌∙◌}
+use Rattle.std.proofs.Common.{◌≡◌, inr, true, map, refl, sym, ap, subst, ◌∙◌, arith}
 use Rattle.octo_outside.proofs.Recorded.{counts_then}
 use Rattle.job_desk.specs.Issued.{line_of}
 use Rattle.octo_session.specs.Found.{Got, got_of, temps_in, temps_kept, is_got, end_by}
 use Rattle.octo_session.specs.Steps.{TakesSome, steps_over_link}
 use Rattle.octo_session.specs.Turn.{texts_in}
 use Rattle.octo_session.specs.declared.found.Received.{Received}
+use Rattle.octo_session.proofs.Keeping.{has_heard}
 use Rattle.octo_session.proofs.Stepping.{takes_talk, end_by_is, got_some, got_kept, none_said}
 use Rattle.octo_session.proofs.open_turn.receive_then_send.Goals as goal
 
@@ -46,4 +47,21 @@ returns-in_default g c =
       up = e.up;
       kind = e.kind ∙ r.kind;
       counts = counts_then _ _ _ _ _ _ r.counts e.counts (λ is_failed. inr is_failed);
+    }
+
+pub after_receiving-requires : goal.after_receiving-requires
+after_receiving-requires g c =
+    let bytes = c.receive.new.line.items in
+    let r = c.receive.ensures in
+    let got : Got = got_of c.receive.result bytes in
+    let was = c.ready-was_ready.ensures in
+    let heard = has_heard got c.args.moment c.args.sender.now c.receive.new.sender (c.requires.joined.running refl) r.steps.sender in
+    record {
+      «open» = r.up ∙ got_some c.receive.result bytes r.asked c.in_default.not-Lost;
+      counted = c.requires.joined.issued ∙ sym heard.issued;
+      not_fallen = omega (arith, c.requires.joined.acked, heard.acked);
+      stays_ready = λ ready. heard.lasts (sym was.ready ∙ ready);
+      goes_on = λ unready. heard.goes_on (sym was.ready ∙ unready);
+      fresh = λ unready. heard.issued ∙ c.requires.early (sym was.ready ∙ unready);
+      linked = c.requires.joined.linked;
     }
