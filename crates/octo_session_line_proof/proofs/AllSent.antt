@@ -87,8 +87,8 @@ module _ (moment : ℕ) where
   }
 
   -- nothing but what was sent changes
-  hello_keeps : (s : SenderData) → next_of s ≡ Some hello → (frame_step moment s).cursor ≡ s.cursor
-  hello_keeps s is = grind (arith, common_steps)
+  hello_keeps : (s : SenderData) (number : ℕ) → next_of s ≡ Some (hello number) → (frame_step moment s).cursor ≡ s.cursor
+  hello_keeps s number is = grind (arith, common_steps)
 
   line_moves : (s : SenderData) (place : ℕ) (text : List ℕ) → next_of s ≡ Some (line place text) → (frame_step moment s).cursor ≡ s.cursor + 1
   line_moves s place text is = grind (arith, common_steps)
@@ -110,7 +110,7 @@ module _ (moment : ℕ) where
   give_sends : (issued : List (List ℕ)) (s : SenderData) (w : WorldData) (events added : List WorldEvent) (next : Option Outgoing) →
       next_of s ≡ next → IsGiven next w added → Sends issued s events → Sends issued (frame_step moment s) (events ++ added)
   give_sends issued s w events added None is given so = absurd given
-  give_sends issued s w events added (Some hello) is given so =
+  give_sends issued s w events added (Some (hello number)) is given so =
       let flags = give_flags moment s in
       record {
         sound = gives_sound moment s so.sound;
@@ -118,7 +118,7 @@ module _ (moment : ℕ) where
         running = give_keeps_end moment s ∙ so.running;
         upto = so.upto;
         within = omega (arith, so.within, flags.issued);
-        near = omega (arith, so.near, hello_keeps s is);
+        near = omega (arith, so.near, hello_keeps s number is);
         were_sent = λ place text above le its. sent_before (frame_of (wire_number place) text) events added (so.were_sent place text (omega (arith, above, flags.acked)) le its);
       }
   give_sends issued s w events added (Some (line at sent)) is given so =

@@ -5,23 +5,23 @@ use Rattle.std.specs.List.{list_any}
 use Rattle.std.proofs.lemmas.Bool.{or_left, or_right}
 use Rattle.std.proofs.lemmas.List.Folds.{list_any-append}
 use Rattle.marlin_reply.specs.Kind.{kind_of}
-use Rattle.marlin_reply.specs.declared.reply.Reply.{Reply}
 use Rattle.job_desk.specs.declared.link_fact.LinkFact.{LinkFact}
 use Rattle.job_desk.specs.declared.link_fact.LinkFact.TheVariants as fact
 use Rattle.send_window.specs.declared.session_end.SessionEnd.{SessionEnd}
 use Rattle.send_window.specs.declared.session_end.SessionEnd.TheVariants.{NoAnswer, AskedBack, AskedAhead, Counts, Restarted, LostOk, NumbersUsed}
 use Rattle.printer_model.specs.World.{WorldData, world_from, is_restart}
-use Rattle.printer_model.specs.Exchanged.{sends_since, replies_from}
+use Rattle.printer_model.specs.Exchanged.{sends_since}
 use Rattle.printer_model.specs.declared.event.WorldEvent.{WorldEvent}
 use Rattle.printer_model.specs.declared.event.WorldEvent.TheVariants.{Recv, Closed}
 use Rattle.printer_model.proofs.Laws.{world_from-append}
 use Rattle.printer_model.proofs.Starts.{sends_since-append, sends_since-free}
 use Rattle.printer_link.specs.Link.{IsHeard, IsSilence}
-use Rattle.send_window.specs.Counting.{IsQuiet}
-use Rattle.send_window.specs.Data.{SenderData}
+use Rattle.send_window.specs.Counting.{IsQuiet, Traffic}
+use Rattle.send_window.specs.Data.{SenderData, NoneEarly}
 use Rattle.send_window.specs.Hearing.{hear_step, tick_step}
 use Rattle.send_window.specs.Session.{hears as sender_hears}
 use Rattle.send_window.proofs.Ending.{ends_by_rule}
+use Rattle.send_window.proofs.Named.{step_none_early}
 use Rattle.send_window.proofs.Sending.{keeps_kind}
 use Rattle.send_window.proofs.Silence.{sends_in_silence}
 use Rattle.octo_session.specs.Found.{Got, unasked, lost, nothing, whole, end_by, can_find}
@@ -29,10 +29,13 @@ use Rattle.octo_session.specs.declared.found.Doing.TheVariants.{UsingLink}
 use Rattle.octo_session.specs.Steps.{ticks, hangs_up, after_steps, AreAdded, clock_steps, steps_over_link}
 use Rattle.octo_session_line_proof.specs.Pieces.{Each, heard_in, heard_of}
 use Rattle.octo_session_line_proof.specs.Wires.{Start, IsFair, Reads, counting, naming, Meets}
-use Rattle.octo_session_line_proof.specs.Traces.{IsTallied, IsStartKnown, IsTraced}
-use Rattle.octo_session_line_proof.proofs.Free.{widen_meets}
+use Rattle.octo_session_line_proof.specs.Stopped.{Fits}
+use Rattle.octo_session_line_proof.specs.Traces.{HasGreeted, IsTallied, IsStartKnown, IsTraced}
+use Rattle.octo_session_line_proof.proofs.Fitting.{fits_met, widen_fits}
 use Rattle.octo_session_line_proof.proofs.Starting.{free_starts}
-use Rattle.octo_session_line_proof.proofs.Tracing.{leads_free, replies_from-append}
+use Rattle.octo_session_line_proof.proofs.Tracing.{leads_free}
+use Rattle.octo_session_line_proof.proofs.Traffic.{traffic_from-append}
+use Rattle.octo_session.specs.Sends.{traffic_from}
 use Rattle.octo_session.specs.Causes.{MayAskBack, IsCaused}
 use Rattle.octo_session_line_proof.proofs.Ends.{IsStill, IsAt, still_caused, tick_caused, clock_end}
 use Rattle.octo_session_line_proof.proofs.Stepping.{hears_leads}
@@ -98,12 +101,12 @@ fair_here start issued s w m = by m.reads
 
 -- a `start` that is received comes of a restart before it
 known_front : (start : Start) (issued : List (List ℕ)) (s : SenderData) (made : WorldData) (rest first : List WorldEvent)
-    (bytes : List ℕ) → IsHeard bytes (world_from made rest) first → Meets start issued s (world_from made rest) →
+    (bytes : List ℕ) → IsHeard bytes (world_from made rest) first → Fits start issued s (world_from made rest) →
     Each (IsStartKnown rest) (world_from made rest).down → IsStartKnown (rest ++ first) bytes
 known_front start issued s made rest first bytes is m starts begins =
     let w : WorldData = world_from made rest in
     let before : Each (IsStartKnown (rest ++ is.before)) (world_from w is.before).down =
-    free_starts (record start { restarted = true }) issued s w rest is.before is.free_before (λ _. refl) (widen_meets start true issued s w (λ _. refl) m) starts in
+    free_starts (record start { restarted = true }) issued s w rest is.before is.free_before (λ _. refl) (widen_fits start true issued s w (λ _. refl) m) starts in
     let E : List (List ℕ) → Type 0 = λ l. Each (IsStartKnown (rest ++ is.before)) l in
     let known : IsStartKnown (rest ++ is.before) is.reply = (subst E is.front before).0 in
     let so : list_any is_restart (rest ++ is.before) ≡ true = known (ap heard_in (sym is.whole) ∙ begins) in
@@ -115,20 +118,21 @@ module _ (moment : ℕ) (is_prompt : Bool) (found : LinkFact) (texts : List (Lis
   silence_at : (first : List WorldEvent) → s.ended ≡ None → IsSilence (world_from made rest) first → IsQuiet (sends_since 0 rest) s →
       IsTraced start made issued s rest → IsAt made (rest ++ first) s
   silence_at first running is quiet traced =
-      let led = leads_free (record start { restarted = true }) issued s (world_from made rest) (replies_from made rest) first is.free (λ _. refl)
-      (widen_meets start true issued s (world_from made rest) (λ _. refl) traced.meets) traced.tallied in
-      let T : List Reply → Type 0 = λ l. IsTallied l s in
+      let led = leads_free (record start { restarted = true }) issued s (world_from made rest) (traffic_from made rest) first is.free (λ _. refl)
+      (widen_fits start true issued s (world_from made rest) (λ _. refl) traced.meets) traced.tallied in
+      let T : List Traffic → Type 0 = λ l. IsTallied l s in
       let Q : ℕ → Type 0 = λ n. IsQuiet n s in
       let C : Option SessionEnd → Type 0 = λ e. IsCaused s.numbered e made (rest ++ first) in
       record {
-        tallied = subst T (sym (replies_from-append made rest first)) led.tallied;
+        tallied = subst T (sym (traffic_from-append made rest first)) led.tallied;
         quiet = subst Q (sym (sends_since-append 0 rest first ∙ sends_since-free (sends_since 0 rest) first is.free)) quiet;
         caused = subst C (sym running) tt;
       }
 
   heard_at : (bytes : List ℕ) (first : List WorldEvent) → s.ended ≡ None → IsHeard bytes (world_from made rest) first →
-      (start.restarted ≡ true → list_any is_restart rest ≡ true) → IsTraced start made issued s rest → IsAt made (rest ++ first) (hear_step (kind_of bytes) moment s)
-  heard_at bytes first running is restarts traced =
+      (start.restarted ≡ true → list_any is_restart rest ≡ true) → NoneEarly s → HasGreeted s.numbered (traffic_from made rest) s → IsTraced start made issued s rest →
+      IsAt made (rest ++ first) (hear_step (kind_of bytes) moment s)
+  heard_at bytes first running is restarts fresh greets traced =
       let all : List WorldEvent = rest ++ first in
       let from : Start = record start { restarted = list_any is_restart all } in
       let old : list_any is_restart rest ≡ true → list_any is_restart all ≡ true =
@@ -136,13 +140,14 @@ module _ (moment : ℕ) (is_prompt : Bool) (found : LinkFact) (texts : List (Lis
       let new : list_any is_restart first ≡ true → list_any is_restart all ≡ true =
       λ r. list_any-append is_restart rest first ∙ or_right (list_any is_restart rest) (list_any is_restart first) r in
       let t : SenderData = hear_step (kind_of bytes) moment s in
-      let led = hears_leads from issued moment s (world_from made rest) (replies_from made rest) bytes first running is new
-      (widen_meets start (list_any is_restart all) issued s (world_from made rest) (λ r. old (restarts r)) traced.meets) traced.tallied in
-      let T : List Reply → Type 0 = λ l. IsTallied l t in
+      let led = hears_leads from issued moment s (world_from made rest) (traffic_from made rest) bytes first running is new
+      (widen_fits start (list_any is_restart all) issued s (world_from made rest) (λ r. old (restarts r)) traced.meets) fresh greets traced.tallied in
+      let T : List Traffic → Type 0 = λ l. IsTallied l t in
       let Q : ℕ → Type 0 = λ n. IsQuiet n t in
-      let here : IsFairHere from t = fair_here from issued t (world_from (world_from made rest) first) led.meets in
+      let here : IsFairHere from t = fair_here from issued t (world_from (world_from made rest) first)
+      (fits_met from issued t (world_from (world_from made rest) first) (step_none_early (sender_hears (kind_of bytes) moment) s tt fresh) led.meets) in
       record {
-        tallied = subst T (sym (replies_from-append made rest first)) led.tallied;
+        tallied = subst T (sym (traffic_from-append made rest first)) led.tallied;
         quiet = subst Q (sym (sends_since-append 0 rest first ∙ since_heard (sends_since 0 rest) bytes (world_from made rest) first is)) (sends_in_silence.0 (kind_of bytes) moment s);
         caused = heard_caused moment bytes made (rest ++ first) t.numbered here.d s t.ended running refl here.plain here.known here.fair (known_front start issued s made rest first bytes is traced.meets traced.starts);
       }
@@ -160,17 +165,18 @@ module _ (moment : ℕ) (is_prompt : Bool) (found : LinkFact) (texts : List (Lis
 
   pub talk_caused : (got : Got) (added : List WorldEvent) → can_find UsingLink found ≡ true → (got ≡ unasked → ⊥) →
       ((why : SessionEnd) → (found ≡ fact.Ended why → end_by got moment s ≡ Some why) × (end_by got moment s ≡ Some why → found ≡ fact.Ended why)) →
-      s.ended ≡ None → IsQuiet (sends_since 0 rest) s → (start.restarted ≡ true → list_any is_restart rest ≡ true) → IsTraced start made issued s rest →
+      s.ended ≡ None → IsQuiet (sends_since 0 rest) s → (start.restarted ≡ true → list_any is_restart rest ≡ true) → NoneEarly s →
+      HasGreeted s.numbered (traffic_from made rest) s → IsTraced start made issued s rest →
       AreAdded moment is_prompt (steps_over_link got found texts count) s (world_from made rest) added →
       IsCaused s.numbered (after_steps moment (steps_over_link got found texts count) s).ended made (rest ++ added)
-  talk_caused unasked added can asked ends running quiet restarts traced steps = absurd (asked refl)
-  talk_caused lost added can asked ends running quiet restarts traced steps =
+  talk_caused unasked added can asked ends running quiet restarts fresh greets traced steps = absurd (asked refl)
+  talk_caused lost added can asked ends running quiet restarts fresh greets traced steps =
       let C : Option SessionEnd → Type 0 = λ e. IsCaused s.numbered e made (rest ++ added) in
       subst C (sym running) tt
-  talk_caused nothing added can asked ends running quiet restarts traced steps =
+  talk_caused nothing added can asked ends running quiet restarts fresh greets traced steps =
       behind steps.0 steps.1 added s can (λ why. (ends why).1) (silence_at steps.0 running steps.3.0 quiet traced) steps.2 steps.4
-  talk_caused (whole bytes) added can asked ends running quiet restarts traced steps =
+  talk_caused (whole bytes) added can asked ends running quiet restarts fresh greets traced steps =
       let t : SenderData = hear_step (kind_of bytes) moment s in
       let K : Bool → Type 0 = λ b. IsCaused b (after_steps moment (clock_steps found texts count) t).ended made (rest ++ added) in
       subst K (keeps_kind (sender_hears (kind_of bytes) moment) s)
-      (behind steps.0 steps.1 added t can (λ why. (ends why).1) (heard_at bytes steps.0 running steps.3.0 restarts traced) steps.2 steps.4)
+      (behind steps.0 steps.1 added t can (λ why. (ends why).1) (heard_at bytes steps.0 running steps.3.0 restarts fresh greets traced) steps.2 steps.4)

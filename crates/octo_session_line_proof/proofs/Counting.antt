@@ -68,7 +68,7 @@ ok_counted number moment s false false kind e f sound so =
     let one : more ≡ 1 = ap (λ (b : Bool). if true && not b then 1 else 0) e in
     let before : oks_of s.ready s.acked ≡ 0 = ap (λ (b : Bool). oks_of b s.acked) f in
     subst C (sym (ok_by false false number moment s kind e f))
-    (record { swallows = e; counts = omega (arith, one, before, sound.hello_first f, sound.counted); asks = λ a. a })
+    (record { swallows = e; counts = omega (arith, one, before, sound.none_acked f); asks = λ a. a })
 ok_counted number moment s false true kind e f sound so =
     let C : SenderData → Type 0 = λ t. IsCounted (ok_heard number) s t in
     let more : ℕ = if true && not s.swallow then 1 else 0 in
@@ -100,7 +100,7 @@ counted busy talk_heard moment s kind sound so = record { swallows = refl; count
 -- an `ok` of a ready sender that isn't swallowed acknowledges the next line
 awaited : (x : Answer) (way : List Answer) (moment : ℕ) (s : SenderData) (d : Bool) (run : ℕ) → run ≤ s.issued → IsRead s d (x ∷ way) run →
     (number : Option ℕ) → reply_to x ≡ ok_heard number → s.swallow ≡ false → named_ok number moment s ≡ acknowledged moment s
-awaited (greeting_ok named) way moment s d run few read number is unswallowed = absurd (read.answers)
+awaited (greeting_ok shown) way moment s d run few read number is unswallowed = absurd (read.answers)
 awaited (command_ok place named) way moment s d run few read number is unswallowed =
     let same : named_by named (wire_number place) ≡ number = cc in
     let more : suc s.acked ≤ run = answers_le false d s.issued (suc s.acked) way run read.answers.1 in
@@ -116,7 +116,7 @@ awaited_at : (issued : List (List ℕ)) (moment : ℕ) (s : SenderData) (linked 
     reply_to x ≡ ok_heard number → s.swallow ≡ false → s.ready ≡ true → named_ok number moment s ≡ acknowledged moment s
 awaited_at issued moment s linked last a x way on running n r (shut closed none idle) number is unswallowed ready = absurd (cc)
 awaited_at issued moment s linked last a x way on running n r (early opened unready e) number is unswallowed ready = absurd (cc)
-awaited_at issued moment s linked last a x way on running n r (late opened is_ready ran ups) number is unswallowed ready =
+awaited_at issued moment s linked last a x way on running n r (late opened is_ready ran ups waits) number is unswallowed ready =
     awaited x way moment s a.dropped (lines_run a.log) (omega (arith, run_few issued a.ran a.dropped last a.queue a.log n.printed, n.holds.count))
     (r.reads running opened ready) number is unswallowed
 

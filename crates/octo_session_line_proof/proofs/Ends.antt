@@ -1,22 +1,20 @@
 -- A session ends with a cause.
-use Rattle.std.proofs.Common.{◌≡◌, ◌⊎◌, inl, inr, ℕ, zero, suc, ◌≤◌, Bool, true, false, List, [], ◌∷◌, ◌++◌, map, replicate, refl, sym, ◌∙◌, ap, subst, append-nil, arith}
+use Rattle.std.proofs.Common.{◌≡◌, ◌⊎◌, inl, inr, ℕ, zero, suc, ◌≤◌, Bool, true, false, List, [], ◌∷◌, ◌++◌, replicate, refl, sym, ◌∙◌, ap, subst, append-nil, arith}
 use Rattle.std.specs.Prelude.{Option, None, Some}
 use Rattle.std.specs.List.{list_any, list_all}
 use Rattle.std.proofs.lemmas.Bool.{or_left}
 use Rattle.std.proofs.lemmas.Grind.{common_steps}
 use Rattle.std.proofs.lemmas.List.Folds.{list_any-append}
-use Rattle.marlin_reply.specs.Kind.{kind_of}
-use Rattle.marlin_reply.specs.declared.reply.Reply.{Reply}
 use Rattle.job_desk.specs.declared.link_fact.LinkFact.{LinkFact}
 use Rattle.job_desk.specs.declared.link_fact.LinkFact.TheVariants as fact
 use Rattle.send_window.specs.declared.session_end.SessionEnd.{SessionEnd}
 use Rattle.send_window.specs.declared.session_end.SessionEnd.TheVariants.{NoAnswer, AskedBack, AskedAhead, Counts, Restarted, LostOk, NumbersUsed}
 use Rattle.printer_model.specs.World.{WorldData, is_free, world_from, is_restart}
-use Rattle.printer_model.specs.Exchanged.{sends_since, replies_from}
+use Rattle.printer_model.specs.Exchanged.{sends_since}
 use Rattle.printer_model.specs.declared.event.WorldEvent.{WorldEvent}
 use Rattle.printer_model.specs.declared.event.WorldEvent.TheVariants.{Closed}
-use Rattle.printer_model.proofs.Starts.{runs-free, sends_since-append, sends_since-free, received_from-free}
-use Rattle.send_window.specs.Counting.{IsQuiet, IsUnbegun, is_resend}
+use Rattle.printer_model.proofs.Starts.{runs-free, sends_since-append, sends_since-free}
+use Rattle.send_window.specs.Counting.{IsQuiet, IsUnbegun, is_resend, Traffic, received_of}
 use Rattle.send_window.specs.Data.{SenderData}
 use Rattle.send_window.specs.Hearing.{tick_step}
 use Rattle.send_window.specs.Sending.{frame_step, push_step}
@@ -27,26 +25,27 @@ use Rattle.octo_session.specs.declared.found.Doing.{Doing}
 use Rattle.octo_session.specs.declared.found.Doing.TheVariants.{Dialling, HangingUp, UsingLink, Resting}
 use Rattle.octo_session.specs.Steps.{gives, fails_to_send, hangs_up, after_steps, AreAdded, issuing, issues_then_sends, clock_steps, turn_steps}
 use Rattle.octo_session_line_proof.specs.Traces.{oks_of, HasCounted, IsTallied}
-use Rattle.octo_session_line_proof.proofs.Tracing.{replies_from-append}
+use Rattle.octo_session_line_proof.proofs.Traffic.{traffic_from-append, traffic_from-free, received_of-from}
 use Rattle.octo_session.specs.Causes.{IsSilentSince, MayAskBack, IsCaused}
 use Rattle.octo_session.proofs.Stepping.{after_steps-append}
 use Rattle.octo_session_line_proof.proofs.Flags.{give_keeps_end}
+use Rattle.octo_session.specs.Sends.{traffic_from}
 
 -- events that neither send nor receive keep a cause
 pub record IsStill (w : WorldData) (added : List WorldEvent) : Type 0 where
   pub unsent : (since : ℕ) → sends_since since added ≡ since
-  pub unheard : replies_from w added ≡ []
+  pub unheard : traffic_from w added ≡ []
 
--- the replies stay as they are
-still_replies : (made : WorldData) (rest added : List WorldEvent) → IsStill (world_from made rest) added → replies_from made (rest ++ added) ≡ replies_from made rest
-still_replies made rest added still =
-    replies_from-append made rest added ∙ ap (λ (l : List Reply). replies_from made rest ++ l) still.unheard ∙ append-nil (replies_from made rest)
+-- lines and replies stay as they are
+still_traffic : (made : WorldData) (rest added : List WorldEvent) → IsStill (world_from made rest) added → traffic_from made (rest ++ added) ≡ traffic_from made rest
+still_traffic made rest added still =
+    traffic_from-append made rest added ∙ ap (λ (l : List Traffic). traffic_from made rest ++ l) still.unheard ∙ append-nil (traffic_from made rest)
 
 still_silent : (numbered : Bool) (made : WorldData) (rest added : List WorldEvent) → IsStill (world_from made rest) added → IsSilentSince numbered made rest →
     IsSilentSince numbered made (rest ++ added)
 still_silent numbered made rest added still (inl none) =
-    let U : List Reply → Type 0 = λ l. IsUnbegun numbered l in
-    inl (subst U (sym (still_replies made rest added still)) none)
+    let U : List Traffic → Type 0 = λ l. IsUnbegun numbered l in
+    inl (subst U (sym (still_traffic made rest added still)) none)
 still_silent numbered made rest added still (inr four) =
     let same : sends_since 0 (rest ++ added) ≡ sends_since 0 rest = sends_since-append 0 rest added ∙ still.unsent (sends_since 0 rest) in
     inr (omega (arith, same, four))
@@ -63,11 +62,12 @@ still_caused numbered (Some (AskedBack number acknowledged)) made rest added sti
 still_caused numbered (Some (AskedAhead number all)) made rest added still caused = caused
 still_caused numbered (Some (Counts number expected)) made rest added still caused = caused
 still_caused numbered (Some Restarted) made rest added still caused = list_any-append is_restart rest added ∙ or_left (list_any is_restart rest) (list_any is_restart added) caused
-still_caused numbered (Some (LostOk limits)) made rest added still caused = ap (list_any is_resend) (still_replies made rest added still) ∙ caused
+still_caused numbered (Some (LostOk limits)) made rest added still caused =
+    ap (list_any is_resend) (sym (received_of-from made (rest ++ added)) ∙ ap received_of (still_traffic made rest added still) ∙ received_of-from made rest) ∙ caused
 still_caused numbered (Some (NumbersUsed all)) made rest added still caused = tt
 
 still_free : (w : WorldData) (events : List WorldEvent) → list_all is_free events ≡ true → IsStill w events
-still_free w events free = record { unsent = λ since. sends_since-free since events free; unheard = ap (map kind_of) (received_from-free w events free) }
+still_free w events free = record { unsent = λ since. sends_since-free since events free; unheard = traffic_from-free w events free }
 
 -- the events of a turn that neither uses the link nor makes one: free ones, or the hanging up
 pub idle_turn : (moment : ℕ) (is_prompt : Bool) (d : Doing) (was_up : Bool) (got : Got) (found : LinkFact) (texts : List (List ℕ))
@@ -104,20 +104,20 @@ still_idle w added (inr closed) =
     (let S : List WorldEvent → Type 0 = λ es. IsStill w es in subst S (sym closed) (record { unsent = λ since. refl; unheard = refl }))
 
 -- a session that has counted no `ok`
-unbegun_by : (numbered : Bool) (replies : List Reply) (s : SenderData) → s.ready ≡ false → HasCounted numbered replies s → IsUnbegun numbered replies
-unbegun_by false replies s is counts =
+unbegun_by : (numbered : Bool) (traffic : List Traffic) (s : SenderData) → s.ready ≡ false → HasCounted numbered traffic s → IsUnbegun numbered traffic
+unbegun_by false traffic s is counts =
     let none : oks_of s.ready s.acked ≡ 0 = ap (λ (b : Bool). oks_of b s.acked) is in
     sym counts.counted ∙ none
-unbegun_by true replies s is names = sym names.greeted ∙ is
+unbegun_by true traffic s is names = sym names.greeted ∙ is
 
 -- such a session, or one that is ready
-silent_by : (replies : List Reply) (s : SenderData) (since : ℕ) (made : WorldData) (rest : List WorldEvent) (ready : Bool) →
-    s.ready ≡ ready → IsTallied replies s → replies ≡ replies_from made rest → since ≡ sends_since 0 rest → (ready ≡ true → 4 ≤ since) →
+silent_by : (traffic : List Traffic) (s : SenderData) (since : ℕ) (made : WorldData) (rest : List WorldEvent) (ready : Bool) →
+    s.ready ≡ ready → IsTallied traffic s → traffic ≡ traffic_from made rest → since ≡ sends_since 0 rest → (ready ≡ true → 4 ≤ since) →
     IsSilentSince s.numbered made rest
-silent_by replies s since made rest false is tallied same count four =
-    let U : List Reply → Type 0 = λ l. IsUnbegun s.numbered l in
-    inl (subst U same (unbegun_by s.numbered replies s is tallied.counts))
-silent_by replies s since made rest true is tallied same count four = inr (omega (arith, count, four refl))
+silent_by traffic s since made rest false is tallied same count four =
+    let U : List Traffic → Type 0 = λ l. IsUnbegun s.numbered l in
+    inl (subst U same (unbegun_by s.numbered traffic s is tallied.counts))
+silent_by traffic s since made rest true is tallied same count four = inr (omega (arith, count, four refl))
 
 -- the clock ends a session for silence alone, at the fifth limit
 tick_silent : (moment count : ℕ) (s : SenderData) (since : ℕ) → s.ended ≡ None → IsQuiet since s →
@@ -128,7 +128,7 @@ tick_silent moment count s since running quiet ends ready =
 
 -- how a running sender ended by a reply or none, and the clock
 pub record IsAt (made : WorldData) (rest : List WorldEvent) (s : SenderData) : Type 0 where
-  pub tallied : IsTallied (replies_from made rest) s
+  pub tallied : IsTallied (traffic_from made rest) s
   pub quiet : IsQuiet (sends_since 0 rest) s
   pub caused : IsCaused s.numbered s.ended made rest
 
@@ -139,12 +139,13 @@ tick_caused_by : (moment : ℕ) (made : WorldData) (rest : List WorldEvent) (s :
     s.ended ≡ None → (tick_step moment s).ended ≡ ended → IsCaused s.numbered ended made rest
 tick_caused_by moment made rest s None at running is = tt
 tick_caused_by moment made rest s (Some (NoAnswer count)) at running is =
-    silent_by (replies_from made rest) s (sends_since 0 rest) made rest s.ready refl at.tallied refl refl (λ ready. tick_silent moment count s (sends_since 0 rest) running at.quiet is ready)
+    silent_by (traffic_from made rest) s (sends_since 0 rest) made rest s.ready refl at.tallied refl refl (λ ready. tick_silent moment count s (sends_since 0 rest) running at.quiet is ready)
 tick_caused_by moment made rest s (Some (AskedBack number acknowledged)) at running is = absurd ((tick_ends (AskedBack number acknowledged) moment s running).0 is)
 tick_caused_by moment made rest s (Some (AskedAhead number all)) at running is = absurd ((tick_ends (AskedAhead number all) moment s running).0 is)
 tick_caused_by moment made rest s (Some (Counts number expected)) at running is = absurd ((tick_ends (Counts number expected) moment s running).0 is)
 tick_caused_by moment made rest s (Some Restarted) at running is = absurd ((tick_ends Restarted moment s running).0 is)
-tick_caused_by moment made rest s (Some (LostOk limits)) at running is = at.tallied.asked ((tick_ends (LostOk limits) moment s running).0 is).1
+tick_caused_by moment made rest s (Some (LostOk limits)) at running is =
+    ap (list_any is_resend) (sym (received_of-from made rest)) ∙ at.tallied.asked ((tick_ends (LostOk limits) moment s running).0 is).1
 tick_caused_by moment made rest s (Some (NumbersUsed all)) at running is = tt
 
 pub tick_caused : (moment : ℕ) (made : WorldData) (rest : List WorldEvent) (s : SenderData) (ended : Option SessionEnd) → s.ended ≡ ended →

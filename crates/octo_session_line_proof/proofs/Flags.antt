@@ -1,16 +1,16 @@
 -- What issuing, sending and the clock leave of a sender.
-use Rattle.std.proofs.Common.{◌≡◌, ℕ, ◌<◌, Bool, true, false, List, ◌∷◌, ◌++◌, [], refl, sym, subst, arith}
+use Rattle.std.proofs.Common.{◌≡◌, ℕ, ◌≤◌, Bool, true, false, List, ◌∷◌, ◌++◌, [], refl, sym, ◌∙◌, subst, arith}
 use Rattle.std.specs.Prelude.{Option, Some, None}
 use Rattle.std.proofs.lemmas.Grind.{common_steps}
 use Rattle.send_window.specs.declared.session_end.SessionEnd.{SessionEnd}
 use Rattle.send_window.specs.declared.session_end.SessionEnd.TheVariants.{NoAnswer, AskedBack, AskedAhead, Counts, Restarted, LostOk, NumbersUsed}
-use Rattle.send_window.specs.Data.{SenderData}
+use Rattle.send_window.specs.Data.{SenderData, NoneEarly}
 use Rattle.send_window.specs.Hearing.{tick_step}
-use Rattle.send_window.specs.Sending.{last_room_of, frame_step}
+use Rattle.send_window.specs.Sending.{frame_step}
 use Rattle.send_window.proofs.Ending.{tick_ends}
-use Rattle.octo_session_line_proof.specs.Pieces.{Piece, Sent, IsSentEarly, IsSentLate}
+use Rattle.octo_session_line_proof.specs.Pieces.{Piece, greeting, command, Sent, intact, corrupted, IsSentEarly, IsSentLate}
 use Rattle.octo_session_line_proof.specs.Wires.{Printed, before, after, IsFair}
-use Rattle.octo_session_line_proof.proofs.Lists.{lines_more}
+use Rattle.octo_session_line_proof.proofs.Lists.{accepted_more}
 
 -- two senders that a printer can't distinguish by its replies
 pub record SameFlags (s t : SenderData) : Type 0 where
@@ -19,9 +19,10 @@ pub record SameFlags (s t : SenderData) : Type 0 where
   pub acked : t.acked ≡ s.acked
   pub issued : t.issued ≡ s.issued
   pub swallow : t.swallow ≡ s.swallow
-  pub due : t.hello_due ≡ true → s.hello_due ≡ true
+  pub due : s.numbered ≡ false → t.hello_due ≡ true → s.hello_due ≡ true
   pub running : t.ended ≡ None → s.ended ≡ None
   pub asks : t.asked_anew ≡ true → s.asked_anew ≡ true
+  pub hellos : s.hellos ≤ t.hellos
   pub fair : (d : Bool) → IsFair d s.ended → IsFair d t.ended
 
 -- the clock ends a session only for silence
@@ -49,9 +50,10 @@ tick_flags moment s = record {
   acked = grind (arith, common_steps);
   issued = grind (arith, common_steps);
   swallow = grind (arith, common_steps);
-  due = λ d. grind (arith, common_steps);
+  due = λ counts d. grind (arith, common_steps);
   running = λ d. grind (arith, common_steps);
   asks = λ a. grind (arith, common_steps);
+  hellos = grind (arith, common_steps);
   fair = λ d. tick_fair d moment s s.ended refl;
 }
 
@@ -65,15 +67,23 @@ give_flags moment s = record {
   acked = grind (arith, common_steps);
   issued = grind (arith, common_steps);
   swallow = grind (arith, common_steps);
-  due = λ d. grind (arith, common_steps);
+  due = λ counts d. grind (arith, common_steps);
   running = λ d. grind (arith, common_steps);
   asks = λ a. grind (arith, common_steps);
+  hellos = grind (arith, common_steps);
   fair = λ d fair. subst (λ (e : Option SessionEnd). IsFair d e) (sym (give_keeps_end moment s)) fair;
 }
 
--- what may be sent: before the hello's `ok` only if the hello is due
+-- a hello that is sent has the next number
+abbrev pub IsNextHello : ℕ → Sent → Type 0
+IsNextHello hellos (intact (greeting number)) = number ≡ hellos
+IsNextHello hellos (intact (command place text)) = Unit {0}
+IsNextHello hellos (corrupted bytes) = Unit {0}
+
+-- what may be sent: before the hello's `ok` only the hello, if it is due
 pub record MaySend (issued : List (List ℕ)) (s : SenderData) (sent : Sent) : Type 0 where
   pub early_so : s.ready ≡ false → IsSentEarly sent × (s.hello_due ≡ true)
+  pub numbered_so : IsNextHello s.hellos sent
   pub late_so : s.ready ≡ true → IsSentLate issued sent
 
 -- more texts are issued
@@ -81,14 +91,13 @@ pub printed_more : (issued : List (List ℕ)) (text : List ℕ) (ran d : Bool) (
     Printed (issued ++ text ∷ []) ran d last queue log
 printed_more issued text ran d last queue log (before b) = before b
 printed_more issued text ran d last queue log (after p) = after (record {
-  lines = p.lines;
   has_run = p.has_run;
-  logged = p.logged;
-  accepted = lines_more issued (text ∷ []) 1 (p.lines ++ queue) p.accepted;
+  accepted = accepted_more issued (text ∷ []) (log ++ queue) p.accepted;
+  waiting = p.waiting;
   last_is = p.last_is;
   emptied = p.emptied;
 })
 
--- a line is issued only in a ready session
-pub room_ready : (s : SenderData) → 0 < last_room_of s → s.ready ≡ true
-room_ready s room = grind (arith, common_steps)
+-- no line was issued before the hello's `ok`
+pub flags_fresh : (s t : SenderData) → SameFlags s t → NoneEarly s → NoneEarly t
+flags_fresh s t same fresh unready = same.issued ∙ fresh (sym same.ready ∙ unready)

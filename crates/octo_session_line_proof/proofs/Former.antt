@@ -3,13 +3,13 @@ use Rattle.std.proofs.Common.{◌≡◌, ℕ, zero, suc, pred, ◌<◌, ◌≤�
 use Rattle.printer_model.specs.Printer.{Logged}
 use Rattle.printer_model.specs.World.{WorldData}
 use Rattle.printer_model.specs.Executed.{opens, till, executed, logged_from}
-use Rattle.printer_model.specs.Exchanged.{events_of_session, replies_from}
+use Rattle.printer_model.specs.Exchanged.{events_of_session}
 use Rattle.printer_model.specs.declared.event.WorldEvent.{WorldEvent}
 use Rattle.printer_model.specs.declared.event.WorldEvent.TheVariants.{Opened}
 use Rattle.printer_model.proofs.Sessions.{till-all, till-append}
 use Rattle.printer_model.proofs.Starts.{till-stop, executed-before}
 use Rattle.printer_link.specs.Link.{LinkKind, world_in}
-use Rattle.octo_session.specs.Sends.{AreSendsFit}
+use Rattle.octo_session.specs.Sends.{AreSendsFit, traffic_from}
 use Rattle.send_window.specs.Counting.{acked_as}
 use Rattle.octo_session.specs.Tied.{world_before, IsTied}
 
@@ -34,8 +34,8 @@ tied_as numbered kind issued acked s past all ran here before t =
     record {
       executed_first = subst E (sym ran) t.executed_first;
       acked_is = t.acked_is
-          ∙ ap (λ (es : List WorldEvent). acked_as numbered (replies_from (world_before kind past s) es)) (sym events)
-          ∙ ap (λ (w : WorldData). acked_as numbered (replies_from w (events_of_session s all))) (sym world);
+          ∙ ap (λ (es : List WorldEvent). acked_as numbered (traffic_from (world_before kind past s) es)) (sym events)
+          ∙ ap (λ (w : WorldData). acked_as numbered (traffic_from w (events_of_session s all))) (sym world);
       acked_run = subst A (sym ran) t.acked_run;
       sends = subst S (sym world) (subst V (sym events) t.sends);
     }

@@ -1,6 +1,6 @@
 -- A reply on the way is received, and the sender hears it and counts it, by what an `ok` counts.
 use Rattle.std.proofs.Common.{◌≡◌, ℕ, Bool, true, false, not, ◌&&◌, ◌||◌, List, [], ◌∷◌, ◌++◌, map, drop, refl, sym, ◌∙◌, ap, subst, append-nil, arith}
-use Rattle.std.specs.Prelude.{None, if◌then◌else◌, max}
+use Rattle.std.specs.Prelude.{Option, None, if◌then◌else◌}
 use Rattle.std.specs.List.{list_any}
 use Rattle.std.proofs.lemmas.Bool.{or_left, or_right}
 use Rattle.std.proofs.lemmas.List.Folds.{list_any-append}
@@ -10,26 +10,28 @@ use Rattle.marlin_reply.specs.declared.reply.Reply.TheVariants as reply
 use Rattle.printer_model.specs.World.{WorldData, happen}
 use Rattle.printer_model.specs.declared.event.WorldEvent.TheVariants.{Recv}
 use Rattle.printer_model.specs.declared.oks.Oks.{Oks}
-use Rattle.send_window.specs.Counting.{is_ok, is_resend, is_pending, named_in, most_named, is_greeting_ok}
-use Rattle.send_window.specs.Data.{SenderData}
+use Rattle.send_window.specs.Counting.{is_ok, is_resend, is_pending, Traffic, received, received_of, name_in, Account, with_name, account_of}
+use Rattle.send_window.specs.Data.{SenderData, NoneEarly}
 use Rattle.send_window.specs.Hearing.{hear_step}
 use Rattle.send_window.specs.Session.{HoldsIssued, hears}
 use Rattle.send_window.proofs.Issued.{step_holds}
+use Rattle.send_window.proofs.Named.{step_none_early}
 use Rattle.send_window.proofs.OwnOks.{counts_next}
 use Rattle.send_window.proofs.Sending.{keeps_kind}
 use Rattle.send_window.proofs.Soundness.{hears_sound}
 use Rattle.octo_session_line_proof.specs.Pieces.{Heard, heard_of, heard_in}
-use Rattle.octo_session_line_proof.specs.Traces.{CountsOks, NamesOks, HasCounted, IsTallied}
+use Rattle.octo_session_line_proof.specs.Traces.{CountsOks, NamesOks, HasCounted, HasGreeted, IsTallied}
 use Rattle.octo_session_line_proof.specs.Wires.{Start, Wires, Numbers, NamedPhase, named_shut, named_early, named_late, Named, Reads, counting, naming, Meets}
 use Rattle.octo_session_line_proof.proofs.Counting.{is_ok_as, is_resend_as, ok_as, resend_as, IsCounted, hear_counted}
 use Rattle.octo_session_line_proof.proofs.Hearing.{heard_as, hear_as, is_busy, run_few, heard_counted}
-use Rattle.octo_session_line_proof.proofs.NamedHearing.{name_in, greets_in, IsNamedBy, IsHeardNamed, heard_early, heard_late}
+use Rattle.octo_session_line_proof.proofs.NamedHearing.{name_as, account_in, IsNamedBy, IsHeardNamed, heard_early, heard_late}
+use Rattle.octo_session_line_proof.proofs.Traffic.{received_of-append, account_received}
 
 -- the first reply is heard if `ok`s count by their numbers
 heard_named : (issued : List (List ℕ)) (moment : ℕ) (s : SenderData) (linked : Bool) (oks : Oks) (last : ℕ) (a : Wires) (line : List ℕ) (rest : List (List ℕ)) →
-    linked ≡ true → s.ended ≡ None → Numbers issued s last a → Named issued s linked oks a (line ∷ rest) →
+    linked ≡ true → s.ended ≡ None → NoneEarly s → Numbers issued s last a → Named issued s linked oks a (line ∷ rest) →
     IsHeardNamed issued (heard_in line) s (hear_step (kind_of line) moment s) linked a (map heard_in rest)
-heard_named issued moment s linked oks last a line rest on running n c =
+heard_named issued moment s linked oks last a line rest on running fresh n c =
     let H : SenderData → Type 0 = λ t. IsHeardNamed issued (heard_in line) s t linked a (map heard_in rest) in
     subst H (sym (hear_as line (heard_in line) moment s running refl)) (by c.phase)
   where
@@ -37,17 +39,17 @@ heard_named issued moment s linked oks last a line rest on running n c =
         IsHeardNamed issued (heard_in line) s (heard_as (is_busy (kind_of line)) (heard_in line) moment s) linked a (map heard_in rest)
     by (named_shut closed none idle) = absurd (cc)
     by (named_early opened unready e) =
-        heard_early issued moment s linked last a (is_busy (kind_of line)) (heard_in line) (map heard_in rest) c.by_number n.sound n.holds n.printed opened running unready e c.replies
-    by (named_late opened ready ran ups) =
+        heard_early issued moment s linked last a (is_busy (kind_of line)) (heard_in line) (map heard_in rest) c.by_number n.sound fresh n.holds n.printed opened running unready e c.replies
+    by (named_late opened ready ran ups waits) =
         heard_late issued moment s linked last a (is_busy (kind_of line)) (heard_in line) (map heard_in rest) c.by_number
-        (omega (arith, run_few issued a.ran a.dropped last a.queue a.log n.printed, n.holds.count)) opened ready ran ups (c.replies.reads running opened ready) c.replies
+        (omega (arith, run_few issued a.ran a.dropped last a.queue a.log n.printed, n.holds.count)) opened ready ran ups waits (c.replies.reads running opened ready) c.replies
 
 heard_reads : (issued : List (List ℕ)) (moment : ℕ) (s : SenderData) (linked : Bool) (oks : Oks) (last : ℕ) (a : Wires) (line : List ℕ) (rest : List (List ℕ)) →
-    linked ≡ true → s.ended ≡ None → Numbers issued s last a → Reads issued s linked oks a (line ∷ rest) →
+    linked ≡ true → s.ended ≡ None → NoneEarly s → Numbers issued s last a → Reads issued s linked oks a (line ∷ rest) →
     Reads issued (hear_step (kind_of line) moment s) linked oks a rest
-heard_reads issued moment s linked oks last a line rest on running n (counting c) = counting (heard_counted issued moment s linked oks last a line rest on running n c)
-heard_reads issued moment s linked oks last a line rest on running n (naming c) =
-    let heard = heard_named issued moment s linked oks last a line rest on running n c in
+heard_reads issued moment s linked oks last a line rest on running fresh n (counting c) = counting (heard_counted issued moment s linked oks last a line rest on running fresh n c)
+heard_reads issued moment s linked oks last a line rest on running fresh n (naming c) =
+    let heard = heard_named issued moment s linked oks last a line rest on running fresh n c in
     naming (record {
       by_number = keeps_kind (hears (kind_of line) moment) s ∙ c.by_number;
       numbers = c.numbers;
@@ -66,7 +68,11 @@ hear_meets start issued moment s w line rest on running front m =
     let Holds : List (List ℕ) → Type 0 = λ texts. HoldsIssued texts t in
     record {
       wires = m.wires;
-      begun = record { kind = keeps_kind (hears (kind_of line) moment) s ∙ m.begun.kind; known = m.begun.known };
+      begun = record {
+        kind = keeps_kind (hears (kind_of line) moment) s ∙ m.begun.kind;
+        known = m.begun.known;
+        none_early = step_none_early (hears (kind_of line) moment) s tt m.begun.none_early;
+      };
       shows = record { few = sh.few; queue = sh.queue; log = sh.log; up = sh.up };
       numbers = record {
         sound = hears_sound (kind_of line) moment s m.numbers.sound;
@@ -74,7 +80,7 @@ hear_meets start issued moment s w line rest on running front m =
         fit = m.numbers.fit;
         printed = m.numbers.printed;
       };
-      reads = subst T (sym front) (heard_reads issued moment s w.linked w.printer.oks w.printer.last m.wires line rest on running m.numbers (subst R front m.reads));
+      reads = subst T (sym front) (heard_reads issued moment s w.linked w.printer.oks w.printer.last m.wires line rest on running m.begun.none_early m.numbers (subst R front m.reads));
     }
 
 -- how a sender counts a reply, by what an `ok` counts
@@ -83,16 +89,16 @@ pub data Tells (h : Heard) (s t : SenderData) : Type 0 where
   by_name : s.numbered ≡ true → IsNamedBy h s t → Tells h s t
 
 tells_reads : (issued : List (List ℕ)) (moment : ℕ) (s : SenderData) (linked : Bool) (oks : Oks) (last : ℕ) (a : Wires) (line : List ℕ) (rest : List (List ℕ)) →
-    linked ≡ true → s.ended ≡ None → Numbers issued s last a → Reads issued s linked oks a (line ∷ rest) → Tells (heard_in line) s (hear_step (kind_of line) moment s)
-tells_reads issued moment s linked oks last a line rest on running n (counting c) = by_count c.counts (hear_counted issued moment s linked oks last a line rest on running n c)
-tells_reads issued moment s linked oks last a line rest on running n (naming c) =
-    by_name c.by_number (heard_named issued moment s linked oks last a line rest on running n c).names
+    linked ≡ true → s.ended ≡ None → NoneEarly s → Numbers issued s last a → Reads issued s linked oks a (line ∷ rest) → Tells (heard_in line) s (hear_step (kind_of line) moment s)
+tells_reads issued moment s linked oks last a line rest on running fresh n (counting c) = by_count c.counts (hear_counted issued moment s linked oks last a line rest on running n c)
+tells_reads issued moment s linked oks last a line rest on running fresh n (naming c) =
+    by_name c.by_number (heard_named issued moment s linked oks last a line rest on running fresh n c).names
 
 pub hear_tells : (start : Start) (issued : List (List ℕ)) (moment : ℕ) (s : SenderData) (w : WorldData) (line : List ℕ) (rest : List (List ℕ)) →
     w.linked ≡ true → s.ended ≡ None → w.down ≡ line ∷ rest → Meets start issued s w → Tells (heard_in line) s (hear_step (kind_of line) moment s)
 hear_tells start issued moment s w line rest on running front m =
     let R : List (List ℕ) → Type 0 = λ l. Reads issued s w.linked w.printer.oks m.wires l in
-    tells_reads issued moment s w.linked w.printer.oks w.printer.last m.wires line rest on running m.numbers (subst R front m.reads)
+    tells_reads issued moment s w.linked w.printer.oks w.printer.last m.wires line rest on running m.begun.none_early m.numbers (subst R front m.reads)
 
 -- a Resend is among the replies if the last one is, or if one was before it
 any_asked : (again before : Bool) (replies : List Reply) (r : Reply) → is_resend r ≡ again → (again || before) ≡ true →
@@ -123,61 +129,54 @@ count_heard replies r s t old c =
     }
 
 -- the same of the numbers that replies name
-name_as : (r : Reply) → named_in r ≡ name_in (heard_of r)
-name_as (reply.Ok number planner block temps) = refl
-name_as (reply.Resend number) = refl
-name_as reply.Start = refl
-name_as reply.Busy = refl
-name_as (reply.Temps temps) = refl
-name_as reply.Error = refl
-name_as reply.Other = refl
+names_as : (r : Reply) → name_in r ≡ name_as (heard_of r)
+names_as (reply.Ok number planner block temps) = refl
+names_as (reply.Resend number) = refl
+names_as reply.Start = refl
+names_as reply.Busy = refl
+names_as (reply.Temps temps) = refl
+names_as reply.Error = refl
+names_as reply.Other = refl
 
-greets_as : (r : Reply) → is_greeting_ok r ≡ greets_in (heard_of r)
-greets_as (reply.Ok number planner block temps) = refl
-greets_as (reply.Resend number) = refl
-greets_as reply.Start = refl
-greets_as reply.Busy = refl
-greets_as (reply.Temps temps) = refl
-greets_as reply.Error = refl
-greets_as reply.Other = refl
+-- a sender that has counted lines and replies stands for their account
+account_is : (traffic : List Traffic) (s : SenderData) → NamesOks traffic s → s.hellos ≡ (account_of traffic).hellos → account_in s ≡ account_of traffic
+account_is traffic s old hellos =
+    let a : Account = account_of traffic in
+    ap (λ (n : ℕ). record { hellos = n; begun = s.ready; acked = s.acked }) hellos
+    ∙ ap (λ (b : Bool). record { hellos = a.hellos; begun = b; acked = s.acked }) old.greeted
+    ∙ ap (λ (n : ℕ). record { hellos = a.hellos; begun = a.begun; acked = n }) old.named
 
-most_push : (replies : List Reply) (r : Reply) → most_named (replies ++ r ∷ []) ≡ max (most_named replies) (named_in r)
-most_push [] r = omega arith
-most_push (first ∷ replies) r = omega (arith, most_push replies r)
-
-or_last : (a b : Bool) → (b || a) ≡ (a || (b || false))
-or_last true true = refl
-or_last true false = refl
-or_last false true = refl
-or_last false false = refl
-
-name_heard : (replies : List Reply) (r : Reply) (s t : SenderData) → NamesOks replies s → IsNamedBy (heard_of r) s t → NamesOks (replies ++ r ∷ []) t
-name_heard replies r s t old c = record {
-  greeted = c.ready
-      ∙ ap (λ (b : Bool). greets_in (heard_of r) || b) old.greeted
-      ∙ ap (λ (b : Bool). b || list_any is_greeting_ok replies) (sym (greets_as r))
-      ∙ or_last (list_any is_greeting_ok replies) (is_greeting_ok r)
-      ∙ sym (list_any-append is_greeting_ok replies (r ∷ []));
-  named = omega (arith, c.acked, old.named, most_push replies r, name_as r);
-}
+name_heard : (traffic : List Traffic) (r : Reply) (s t : SenderData) → NamesOks traffic s → s.hellos ≡ (account_of traffic).hellos → IsNamedBy (heard_of r) s t →
+    NamesOks (traffic ++ received r ∷ []) t
+name_heard traffic r s t old hellos c =
+    let all : account_in t ≡ account_of (traffic ++ received r ∷ []) =
+    c.account
+    ∙ ap (λ (name : Option ℕ). with_name name (account_in s)) (sym (names_as r))
+    ∙ ap (with_name (name_in r)) (account_is traffic s old hellos)
+    ∙ sym (account_received traffic r)
+    in
+    record { greeted = ap (λ (a : Account). a.begun) all; named = ap (λ (a : Account). a.acked) all }
 
 -- one more reply is told, by what an `ok` counts
-told_by : (replies : List Reply) (r : Reply) (s t : SenderData) (numbered : Bool) → s.numbered ≡ numbered → HasCounted numbered replies s → Tells (heard_of r) s t →
-    HasCounted numbered (replies ++ r ∷ []) t
-told_by replies r s t false kind old (by_count counts c) = count_heard replies r s t old c
-told_by replies r s t true kind old (by_name names c) = name_heard replies r s t old c
-told_by replies r s t false kind old (by_name names c) = absurd (cc)
-told_by replies r s t true kind old (by_count counts c) = absurd (cc)
+told_by : (traffic : List Traffic) (r : Reply) (s t : SenderData) (numbered : Bool) → s.numbered ≡ numbered → HasGreeted numbered traffic s → HasCounted numbered traffic s →
+    Tells (heard_of r) s t → HasCounted numbered (traffic ++ received r ∷ []) t
+told_by traffic r s t false kind greets old (by_count counts c) =
+    let C : List Reply → Type 0 = λ l. CountsOks l t in
+    subst C (sym (received_of-append traffic (received r ∷ []))) (count_heard (received_of traffic) r s t old c)
+told_by traffic r s t true kind greets old (by_name names c) = name_heard traffic r s t old greets c
+told_by traffic r s t false kind greets old (by_name names c) = absurd (cc)
+told_by traffic r s t true kind greets old (by_count counts c) = absurd (cc)
 
 asks_told : (h : Heard) (s t : SenderData) → Tells h s t → t.asked_anew ≡ true → (is_resend_as h || s.asked_anew) ≡ true
 asks_told h s t (by_count counts c) a = c.asks a
 asks_told h s t (by_name names c) a = c.asks a
 
-pub tally_heard : (replies : List Reply) (r : Reply) (s t : SenderData) → t.numbered ≡ s.numbered → IsTallied replies s → Tells (heard_of r) s t →
-    IsTallied (replies ++ r ∷ []) t
-tally_heard replies r s t kind old tells =
-    let K : Bool → Type 0 = λ b. HasCounted b (replies ++ r ∷ []) t in
+pub tally_heard : (traffic : List Traffic) (r : Reply) (s t : SenderData) → t.numbered ≡ s.numbered → HasGreeted s.numbered traffic s → IsTallied traffic s →
+    Tells (heard_of r) s t → IsTallied (traffic ++ received r ∷ []) t
+tally_heard traffic r s t kind greets old tells =
+    let K : Bool → Type 0 = λ b. HasCounted b (traffic ++ received r ∷ []) t in
     record {
-      counts = subst K (sym kind) (told_by replies r s t s.numbered refl old.counts tells);
-      asked = λ a. any_asked (is_resend_as (heard_of r)) s.asked_anew replies r (resend_as r) (asks_told (heard_of r) s t tells a) old.asked;
+      counts = subst K (sym kind) (told_by traffic r s t s.numbered refl greets old.counts tells);
+      asked = λ a. ap (list_any is_resend) (received_of-append traffic (received r ∷ []))
+          ∙ any_asked (is_resend_as (heard_of r)) s.asked_anew (received_of traffic) r (resend_as r) (asks_told (heard_of r) s t tells a) old.asked;
     }

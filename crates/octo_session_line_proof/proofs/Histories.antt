@@ -4,12 +4,12 @@ use Rattle.std.specs.Prelude.{filter, Option, Some, None}
 use Rattle.printer_model.specs.Printer.{Logged}
 use Rattle.printer_model.specs.World.{world_of}
 use Rattle.printer_model.specs.Executed.{opens, till, is_counted, executed, logged_from}
-use Rattle.printer_model.specs.Exchanged.{events_of_session, replies_from}
+use Rattle.printer_model.specs.Exchanged.{events_of_session}
 use Rattle.printer_model.specs.declared.event.WorldEvent.{WorldEvent}
 use Rattle.printer_model.proofs.Sessions.{till-all, opens-append}
 use Rattle.printer_link.specs.Link.{LinkKind, Recorded}
 use Rattle.send_window.specs.Counting.{acked_as}
-use Rattle.octo_session.specs.Sends.{AreSendsFit}
+use Rattle.octo_session.specs.Sends.{AreSendsFit, traffic_from}
 use Rattle.octo_session.specs.Tied.{HasIssued, world_before}
 
 drop_whole : {X : Type 0} (xs : List X) → drop (length xs) xs ≡ []
@@ -40,7 +40,7 @@ none_printed numbered kind past added none =
     ∙ drop_whole all
     in
     let E : List Logged → Type 0 = λ l. l ≡ logged_from 1 (take (length l) []) in
-    let A : List WorldEvent → Type 0 = λ es. 0 ≡ acked_as numbered (replies_from (world_before kind all (suc (opens past))) es) in
+    let A : List WorldEvent → Type 0 = λ es. 0 ≡ acked_as numbered (traffic_from (world_before kind all (suc (opens past))) es) in
     let S : List WorldEvent → Type 0 = λ es. AreSendsFit numbered [] [] (world_before kind all (suc (opens past))) es in
     record {
       once = omega (arith, none);

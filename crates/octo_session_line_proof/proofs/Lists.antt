@@ -1,10 +1,12 @@
 -- Lists of lines: what holds of each item, and that lines are the issued ones in order.
-use Rattle.std.proofs.Common.{◌≡◌, ℕ, zero, suc, ◌+◌, ◌-◌, ◌<◌, ◌≤◌, List, [], ◌∷◌, ◌++◌, length, set, refl, subst, arith}
+use Rattle.std.proofs.Common.{◌≡◌, ℕ, zero, suc, ◌+◌, ◌-◌, ◌<◌, ◌≤◌, List, [], ◌∷◌, ◌++◌, length, set, refl, sym, subst, arith}
 use Rattle.std.specs.Prelude.{Some, slice_get}
 use Rattle.std.specs.List.{remove}
 use Rattle.std.proofs.lemmas.Option.{slice_get_within}
-use Rattle.octo_session_line_proof.specs.Pieces.{Piece, greeting, command, Sent, intact, corrupted, Each, IsFit, IsSentLate, IsLineAt, AreLinesFrom}
+use Rattle.octo_session_line_proof.specs.Pieces.{Piece, greeting, command, Sent, intact, corrupted, Each, IsFit, IsGreeting, IsSentLate, IsLineAt, AreLinesFrom, AreAccepted}
+use Rattle.send_window.specs.Data.{most_hellos}
 use Rattle.octo_session.specs.Sends.{IsIssued}
+use Rattle.octo_session_line_proof.specs.Wires.{lines_run}
 
 pub each_push : {X : Type 0} (P : X → Type 0) (xs : List X) (x : X) → Each P xs → P x → Each P (xs ++ x ∷ [])
 each_push P [] x all one = (one, tt)
@@ -50,7 +52,7 @@ pub issued_more : (issued more : List (List ℕ)) (place : ℕ) (text : List ℕ
 issued_more issued more place text is = record { counted = is.counted; found = slice_get-more issued more (place - 1) text is.found }
 
 pub sent_more : (issued more : List (List ℕ)) (sent : Sent) → IsSentLate issued sent → IsSentLate (issued ++ more) sent
-sent_more issued more (intact greeting) is = absurd is
+sent_more issued more (intact (greeting number)) is = absurd is
 sent_more issued more (intact (command place text)) is = issued_more issued more place text is
 sent_more issued more (corrupted bytes) is = is
 
@@ -87,7 +89,7 @@ lines_at issued place (x ∷ xs) y ys lines =
     subst P same (lines_at issued (suc place) xs y ys lines.1)
 
 line_more : (issued more : List (List ℕ)) (place : ℕ) (piece : Piece) → IsLineAt issued place piece → IsLineAt (issued ++ more) place piece
-line_more issued more place greeting is = absurd is
+line_more issued more place (greeting number) is = absurd is
 line_more issued more place (command at text) is = (is.0, issued_more issued more at text is.1)
 
 -- more texts are issued
@@ -99,16 +101,82 @@ lines_more issued more place (piece ∷ pieces) lines = (line_more issued more p
 pub lines_within : (issued : List (List ℕ)) (place : ℕ) (pieces : List Piece) → AreLinesFrom issued (suc place) pieces → place ≤ length issued →
     place + length pieces ≤ length issued
 lines_within issued place [] lines within = omega arith
-lines_within issued place (greeting ∷ pieces) lines within = absurd lines.0
+lines_within issued place (greeting number ∷ pieces) lines within = absurd lines.0
 lines_within issued place (command at text ∷ pieces) lines within =
     let here : at ≤ length issued = issued_within issued at text lines.0.1 in
     let same : at ≡ suc place = lines.0.0 in
     let more : suc place + length pieces ≤ length issued = lines_within issued (suc place) pieces lines.1 (omega arith) in
     omega arith
 
-pub lines_none : (pieces : List Piece) → AreLinesFrom [] 1 pieces → pieces ≡ []
-lines_none [] lines = refl
-lines_none (greeting ∷ pieces) lines = absurd lines.0
-lines_none (command at text ∷ pieces) lines =
-    let here : at ≤ 0 = issued_within [] at text lines.0.1 in
-    absurd (omega (arith, lines.0.0))
+-- how many lines two parts have
+pub run_append : (xs ys : List Piece) → lines_run (xs ++ ys) ≡ lines_run xs + lines_run ys
+run_append [] ys = omega arith
+run_append (greeting number ∷ xs) ys = run_append xs ys
+run_append (command place text ∷ xs) ys = omega (arith, run_append xs ys)
+
+pub lines_all : (issued : List (List ℕ)) (place : ℕ) (pieces : List Piece) → AreLinesFrom issued place pieces → lines_run pieces ≡ length pieces
+lines_all issued place [] lines = refl
+lines_all issued place (greeting number ∷ pieces) lines = absurd lines.0
+lines_all issued place (command at text ∷ pieces) lines = omega (arith, lines_all issued (suc place) pieces lines.1)
+
+-- hellos alone are accepted, and are no lines
+pub greetings_accepted : (issued : List (List ℕ)) (pieces : List Piece) → Each IsGreeting pieces → AreAccepted issued pieces
+greetings_accepted issued [] all = tt
+greetings_accepted issued (greeting number ∷ pieces) all = (all.0, greetings_accepted issued pieces all.1)
+greetings_accepted issued (command place text ∷ pieces) all = absurd all.0
+
+pub greetings_run : (pieces : List Piece) → Each IsGreeting pieces → lines_run pieces ≡ 0
+greetings_run [] all = refl
+greetings_run (greeting number ∷ pieces) all = greetings_run pieces all.1
+greetings_run (command place text ∷ pieces) all = absurd all.0
+
+-- while no line was accepted there are hellos alone
+pub none_accepted : (issued : List (List ℕ)) (pieces : List Piece) → AreAccepted issued pieces → lines_run pieces ≡ 0 → Each IsGreeting pieces
+none_accepted issued [] accepted none = tt
+none_accepted issued (greeting number ∷ pieces) accepted none = (accepted.0, none_accepted issued pieces accepted.1 none)
+none_accepted issued (command place text ∷ pieces) accepted none = absurd (omega (arith, none))
+
+-- the first of what was accepted
+pub accepted_front : (issued : List (List ℕ)) (xs ys : List Piece) → AreAccepted issued (xs ++ ys) → AreAccepted issued xs
+accepted_front issued [] ys accepted = tt
+accepted_front issued (greeting number ∷ xs) ys accepted = (accepted.0, accepted_front issued xs ys accepted.1)
+accepted_front issued (command place text ∷ xs) ys accepted = lines_front issued 1 (command place text ∷ xs) ys accepted
+
+-- the line after these
+pub accepted_at : (issued : List (List ℕ)) (xs : List Piece) (place : ℕ) (text : List ℕ) (ys : List Piece) →
+    AreAccepted issued (xs ++ command place text ∷ ys) → IsLineAt issued (1 + lines_run xs) (command place text)
+accepted_at issued [] place text ys accepted = accepted.0
+accepted_at issued (greeting number ∷ xs) place text ys accepted = accepted_at issued xs place text ys accepted.1
+accepted_at issued (command at first ∷ xs) place text ys accepted =
+    let count : lines_run (command at first ∷ xs) ≡ length (command at first ∷ xs) =
+    lines_all issued 1 (command at first ∷ xs) (lines_front issued 1 (command at first ∷ xs) (command place text ∷ ys) accepted)
+    in
+    let P : ℕ → Type 0 = λ n. IsLineAt issued (1 + n) (command place text) in
+    subst P (sym count) (lines_at issued 1 (command at first ∷ xs) (command place text) ys accepted)
+
+-- a hello after these
+pub accepted_greeting : (issued : List (List ℕ)) (xs : List Piece) (number : ℕ) (ys : List Piece) → AreAccepted issued (xs ++ greeting number ∷ ys) → number < most_hellos
+accepted_greeting issued [] number ys accepted = accepted.0
+accepted_greeting issued (greeting earlier ∷ xs) number ys accepted = accepted_greeting issued xs number ys accepted.1
+accepted_greeting issued (command place text ∷ xs) number ys accepted = absurd (lines_at issued 1 (command place text ∷ xs) (greeting number) ys accepted)
+
+-- one more line
+pub accepted_push : (issued : List (List ℕ)) (pieces : List Piece) (at : ℕ) (text : List ℕ) → AreAccepted issued pieces →
+    at ≡ 1 + lines_run pieces → IsIssued issued at text → AreAccepted issued (pieces ++ command at text ∷ [])
+accepted_push issued [] at text accepted is its = ((is, its), tt)
+accepted_push issued (greeting number ∷ pieces) at text accepted is its = (accepted.0, accepted_push issued pieces at text accepted.1 is its)
+accepted_push issued (command place first ∷ pieces) at text accepted is its =
+    lines_push issued 1 (command place first ∷ pieces) at text accepted (omega (arith, is, lines_all issued 1 (command place first ∷ pieces) accepted)) its
+
+-- there are at most as many as were issued
+pub accepted_within : (issued : List (List ℕ)) (pieces : List Piece) → AreAccepted issued pieces → lines_run pieces ≤ length issued
+accepted_within issued [] accepted = omega arith
+accepted_within issued (greeting number ∷ pieces) accepted = accepted_within issued pieces accepted.1
+accepted_within issued (command place text ∷ pieces) accepted =
+    omega (arith, lines_all issued 1 (command place text ∷ pieces) accepted, lines_within issued 0 (command place text ∷ pieces) accepted (omega arith))
+
+-- more texts are issued
+pub accepted_more : (issued more : List (List ℕ)) (pieces : List Piece) → AreAccepted issued pieces → AreAccepted (issued ++ more) pieces
+accepted_more issued more [] accepted = tt
+accepted_more issued more (greeting number ∷ pieces) accepted = (accepted.0, accepted_more issued more pieces accepted.1)
+accepted_more issued more (command place text ∷ pieces) accepted = lines_more issued more 1 (command place text ∷ pieces) accepted

@@ -4,8 +4,8 @@ use Rattle.std.specs.Prelude.{None, Some, max}
 use Rattle.std.specs.List.{remove}
 use Rattle.std.proofs.lemmas.List.{map-append}
 use Rattle.marlin_frame.specs.Numbering.{place_of}
-use Rattle.octo_session_line_proof.specs.Pieces.{Heard, ok_heard, resend_heard, start_heard, talk_heard, heard_in, Each}
-use Rattle.octo_session_line_proof.specs.Wires.{resends, named_on, IsEarlyHeard, NamesRun, IsAsked}
+use Rattle.octo_session_line_proof.specs.Pieces.{Heard, ok_heard, resend_heard, start_heard, talk_heard, heard_in}
+use Rattle.octo_session_line_proof.specs.Wires.{resends, named_on, NamesRun, IsAsked}
 
 -- more replies
 pub resends_append : (way more : List Heard) → resends (way ++ more) ≡ resends way + resends more
@@ -22,10 +22,6 @@ named_append (ok_heard (Some number) ∷ way) more = omega (arith, named_append 
 named_append (resend_heard number ∷ way) more = named_append way more
 named_append (start_heard ∷ way) more = named_append way more
 named_append (talk_heard ∷ way) more = named_append way more
-
-pub each_append : {X : Type 0} (P : X → Type 0) (xs ys : List X) → Each P xs → Each P ys → Each P (xs ++ ys)
-each_append P [] ys first second = second
-each_append P (x ∷ xs) ys first second = (first.0, each_append P xs ys first.1 second)
 
 pub heard_more : (down lines : List (List ℕ)) (more : List Heard) → map heard_in lines ≡ more → map heard_in (down ++ lines) ≡ map heard_in down ++ more
 heard_more down lines more is = map-append heard_in down lines ∙ ap (λ (l : List Heard). map heard_in down ++ l) is
@@ -112,13 +108,10 @@ names_remove d n a k (talk_heard ∷ way) zero is = is
 names_remove d n a k (talk_heard ∷ way) (suc at) is = names_remove d n a k way at is
 
 -- after the hello's `ok` no line is named yet
-pub names_begin : (d : Bool) (way : List Heard) → resends way ≡ 0 → Each IsEarlyHeard way → NamesRun d 0 0 0 way
-names_begin d [] light all = tt
-names_begin d (ok_heard None ∷ way) light all = names_begin d way light all.1
-names_begin d (ok_heard (Some number) ∷ way) light all = (
-  omega (arith, all.0),
-  names_so d d 0 0 0 (max 0 (place_of number)) 0 0 way (λ e. e) (omega arith) (omega (arith, all.0)) (omega arith) (names_begin d way light all.1),
-)
-names_begin d (resend_heard number ∷ way) light all = absurd (omega (arith, light))
-names_begin d (start_heard ∷ way) light all = names_begin d way light all.1
-names_begin d (talk_heard ∷ way) light all = names_begin d way light all.1
+pub names_begin : (d : Bool) (way : List Heard) → resends way ≡ 0 → named_on way ≡ 0 → NamesRun d 0 0 0 way
+names_begin d [] light none = tt
+names_begin d (ok_heard None ∷ way) light none = names_begin d way light none
+names_begin d (ok_heard (Some number) ∷ way) light none = absurd (omega (arith, none))
+names_begin d (resend_heard number ∷ way) light none = absurd (omega (arith, light))
+names_begin d (start_heard ∷ way) light none = names_begin d way light none
+names_begin d (talk_heard ∷ way) light none = names_begin d way light none

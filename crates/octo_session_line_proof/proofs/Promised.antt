@@ -7,7 +7,6 @@ use Rattle.std.proofs.lemmas.List.Folds.{list_any-append}
 use Rattle.job_desk.specs.declared.link_fact.LinkFact.{LinkFact}
 use Rattle.job_desk.specs.declared.link_fact.LinkFact.TheVariants as fact
 use Rattle.send_window.specs.declared.session_end.SessionEnd.{SessionEnd}
-use Rattle.marlin_reply.specs.declared.reply.Reply.{Reply}
 use Rattle.printer_model.specs.World.{WorldData, is_free, is_restart, apply, world_from}
 use Rattle.printer_model.specs.Executed.{opens}
 use Rattle.printer_model.specs.declared.event.WorldEvent.{WorldEvent}
@@ -16,9 +15,9 @@ use Rattle.printer_model.proofs.Laws.{world_from-append}
 use Rattle.printer_model.proofs.Sessions.{opens-append}
 use Rattle.printer_model.proofs.Starts.{runs-free}
 use Rattle.printer_link.specs.Link.{LinkKind, IsOpenAs, world_in}
-use Rattle.printer_model.specs.Exchanged.{sends_since, replies_from}
-use Rattle.send_window.specs.Counting.{IsQuiet}
-use Rattle.send_window.specs.Data.{SenderData, IsSound}
+use Rattle.printer_model.specs.Exchanged.{sends_since}
+use Rattle.send_window.specs.Counting.{IsQuiet, Traffic}
+use Rattle.send_window.specs.Data.{SenderData, IsSound, NoneEarly}
 use Rattle.printer_link.specs.Suits.{Suits, SuitsAs}
 use Rattle.octo_session.specs.Data.{SessionData, doing}
 use Rattle.octo_session.specs.Found.{Got, unasked, lost, nothing, whole, end_by, can_find}
@@ -26,10 +25,13 @@ use Rattle.octo_session.specs.declared.found.Doing.{Doing}
 use Rattle.octo_session.specs.declared.found.Doing.TheVariants.{Dialling, HangingUp, UsingLink, Resting}
 use Rattle.octo_session.specs.Steps.{opens as makes_link, after_steps, AreAdded, dial_steps, steps_over_link, turn_steps}
 use Rattle.octo_session_line_proof.specs.Pieces.{Each}
-use Rattle.octo_session_line_proof.specs.Wires.{Start, Meets}
-use Rattle.octo_session_line_proof.specs.Traces.{IsTallied, IsStartKnown, IsTraced}
-use Rattle.octo_session_line_proof.proofs.Free.{widen_meets}
-use Rattle.octo_session_line_proof.proofs.Tracing.{leads_free, fits_append, replies_from-append}
+use Rattle.octo_session_line_proof.specs.Wires.{Start}
+use Rattle.octo_session_line_proof.specs.Stopped.{Fits}
+use Rattle.octo_session_line_proof.specs.Traces.{HasGreeted, IsTallied, IsStartKnown, IsTraced}
+use Rattle.octo_session_line_proof.proofs.Fitting.{widen_fits}
+use Rattle.octo_session_line_proof.proofs.Tracing.{leads_free, fits_append}
+use Rattle.octo_session_line_proof.proofs.Traffic.{traffic_from-append}
+use Rattle.octo_session.specs.Sends.{traffic_from}
 use Rattle.octo_session_line_proof.specs.Linked.{start_of, IsUnopened, IsOpened, IsLinked, LinkedAs, unopened, opened}
 use Rattle.octo_session.specs.Causes.{IsCaused, IsEndCaused}
 use Rattle.octo_session.specs.Tied.{IsTied}
@@ -50,15 +52,15 @@ traced_free start made issued s rest events free restarts t =
     λ r. list_any-append is_restart rest events ∙ or_left (list_any is_restart rest) (list_any is_restart events) r in
     let new : list_any is_restart events ≡ true → list_any is_restart all ≡ true =
     λ r. list_any-append is_restart rest events ∙ or_right (list_any is_restart rest) (list_any is_restart events) r in
-    let led = leads_free from issued s (world_from made rest) (replies_from made rest) events free new
-    (widen_meets start (list_any is_restart all) issued s (world_from made rest) (λ r. old (restarts r)) t.meets) t.tallied in
-    let M : WorldData → Type 0 = λ w. Meets from issued s w in
-    let R = λ (l : List Reply). IsTallied l s in
+    let led = leads_free from issued s (world_from made rest) (traffic_from made rest) events free new
+    (widen_fits start (list_any is_restart all) issued s (world_from made rest) (λ r. old (restarts r)) t.meets) t.tallied in
+    let M : WorldData → Type 0 = λ w. Fits from issued s w in
+    let R = λ (l : List Traffic). IsTallied l s in
     let E : WorldData → Type 0 = λ w. Each (IsStartKnown (rest ++ events)) w.down in
     record {
       same_session = omega (arith, opens-append rest events, t.same_session, led.same_session);
       meets = subst M (sym (world_from-append made rest events)) led.meets;
-      tallied = subst R (sym (replies_from-append made rest events)) led.tallied;
+      tallied = subst R (sym (traffic_from-append made rest events)) led.tallied;
       sends = fits_append start.numbered issued issued [] made rest events led.extends t.sends led.sends;
       starts = subst E (sym (world_from-append made rest events)) (led.starts rest t.starts);
     }
@@ -160,6 +162,7 @@ same_opened kind issued x y past sender up o =
     let Q : SenderData → Type 0 = λ s. IsQuiet (sends_since 0 o.rest) s in
     let K : SenderData → Type 0 = λ s. Suits s.numbered kind.oks in
     let C : SenderData → Type 0 = λ s. IsCaused s.numbered s.ended (apply (world_in kind o.front) (Opened o.last)) o.rest in
+    let G : SenderData → Type 0 = λ s. NoneEarly s → HasGreeted s.numbered (traffic_from (apply (world_in kind o.front) (Opened o.last)) o.rest) s in
     record {
       front = o.front;
       last = o.last;
@@ -169,6 +172,7 @@ same_opened kind issued x y past sender up o =
       traced = subst T (sym sender) o.traced;
       open_as = o.open_as ∙ sym up;
       quiet = λ is_up. subst Q (sym sender) (o.quiet (sym up ∙ is_up));
+      greets = λ is_up. subst G (sym sender) (o.greets (sym up ∙ is_up));
       caused = subst C (sym sender) o.caused;
       suits = subst K (sym sender) o.suits;
     }

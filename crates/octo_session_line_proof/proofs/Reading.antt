@@ -3,9 +3,8 @@ use Rattle.std.proofs.Common.{◌≡◌, ◌≢◌, inl, inr, ℕ, ◌+◌, ◌<
 use Rattle.std.specs.Prelude.{Some, None, Ok, Err, Result, bytes_eq, cond}
 use Rattle.byte_text.specs.Marks.{has_m110}
 use Rattle.marlin_frame.specs.Frame.{frame_of, line_number_of}
-use Rattle.marlin_frame.specs.Numbering.{hello_number, wire_number, hello_text, hello_frame}
+use Rattle.marlin_frame.specs.Numbering.{hello_number, wire_number, hello_text}
 use Rattle.marlin_frame.proofs.FrameLaws.{sum_of, sum_of-lt, numbered_line, n_parameter_of-frame, begins_with_n-frame, line_number_of-frame, has_m110-frame}
-use Rattle.marlin_frame.proofs.HelloLaws.{hello_n_parameter, hello_line, hello_sets_number}
 use Rattle.marlin_reply.specs.Kind.{kind_of, is_other_reply, is_chatter}
 use Rattle.marlin_reply.specs.declared.reply.Reply.{Reply}
 use Rattle.marlin_reply.specs.declared.reply.Reply.TheVariants as reply
@@ -14,6 +13,9 @@ use Rattle.printer_model.specs.Replies.{asked_after, error_line, ok_line, resend
 use Rattle.printer_model.specs.declared.printer.Reason.{Reason}
 use Rattle.printer_model.specs.declared.printer.Reason.TheVariants.{WrongNumber}
 use Rattle.printer_model.proofs.Judging.{judged-numbered, judged-out_of_turn, kind_of-error_line, kind_of-resend_line, kind_of-ok_line, kind_of-start_line, kind_of-temperatures_line, kind_of-named, run_reply-temperatures, run_reply-numbered, run_reply-plain}
+use Rattle.send_window.specs.Data.{most_hellos}
+use Rattle.send_window.specs.Sending.{hello_with}
+use Rattle.octo_session_line_proof.proofs.Hellos.{hello_n_parameter, hello_line, hello_sets_number}
 use Rattle.octo_session_line_proof.specs.Pieces.{greeting, command, entry_in, bytes_in, IsFit, ok_heard, resend_heard, start_heard, talk_heard, heard_of, heard_in, named_by}
 
 -- a text's frame is read back
@@ -44,17 +46,17 @@ line_refused last place text few fit other =
     judged-out_of_turn last line (begins_with_n-frame n text) (λ same. other (sym its ∙ same))
     (has_m110-frame n text (small_number place few) (frame_sum place text few fit) fit.sendable.no_m110)
 
--- the hello is accepted at any number
-pub greeting_accepted : (last : ℕ) → judged last (bytes_in greeting) ≡ Ok (entry_in greeting)
-greeting_accepted last =
+-- a hello is accepted at any number
+pub greeting_accepted : (last number : ℕ) → number < most_hellos → judged last (bytes_in (greeting number)) ≡ Ok (entry_in (greeting number))
+greeting_accepted last number small =
     let taken : Entry → Result Entry Reason = λ entry. Ok entry in
-    judged-numbered last hello_number hello_text hello_frame hello_line (inr hello_sets_number)
-    ∙ ap (λ (n_parameter : ℕ). taken (record { number = Some hello_number; n_parameter = Some n_parameter; text = hello_text })) hello_n_parameter
+    judged-numbered last hello_number hello_text (hello_with number) (hello_line number small) (inr (hello_sets_number number small))
+    ∙ ap (λ (n_parameter : ℕ). taken (record { number = Some hello_number; n_parameter = Some n_parameter; text = hello_text })) (hello_n_parameter number small)
 
 -- the last number after a run
-pub last_after-greeting : (last : ℕ) → last_after last (entry_in greeting) ≡ hello_number
+pub last_after-greeting : (last number : ℕ) → last_after last (entry_in (greeting number)) ≡ hello_number
 unfolding last_after has_m110
-last_after-greeting last = refl
+last_after-greeting last number = refl
 
 pub last_after-command : (last place : ℕ) (text : List ℕ) → IsFit text → last_after last (entry_in (command place text)) ≡ last
 unfolding last_after

@@ -1,14 +1,14 @@
 -- What the events of the line and the printer leave of the replies on the way, by what an `ok` counts.
 use Rattle.std.proofs.Common.{◌≡◌, ℕ, ◌+◌, ◌≤◌, Bool, true, false, List, [], ◌∷◌, ◌++◌, length, map, refl, sym, ap, subst}
 use Rattle.std.specs.List.{remove}
-use Rattle.marlin_frame.specs.Numbering.{wire_number}
+use Rattle.marlin_frame.specs.Numbering.{hello_number, wire_number}
 use Rattle.printer_model.specs.Replies.{asked_after}
 use Rattle.printer_model.specs.declared.oks.Oks.{Oks}
 use Rattle.printer_model.proofs.Wires.{map_remove}
-use Rattle.send_window.specs.Data.{SenderData, IsSound}
+use Rattle.send_window.specs.Data.{SenderData, IsSound, NoneEarly}
 use Rattle.send_window.specs.Session.{HoldsIssued}
 use Rattle.octo_session_line_proof.specs.Pieces.{Piece, greeting, command, Sent, intact, Answer, refusal, chat, restart, Heard, ok_heard, start_heard, talk_heard, heard_in, named_by, front_in, replies_in, replies_on, Each, IsSentEarly, IsSentLate}
-use Rattle.octo_session_line_proof.specs.Wires.{Wires, Printed, Counted, Named, Reads, counting, naming}
+use Rattle.octo_session_line_proof.specs.Wires.{Wires, Printed, AreUpAhead, Counted, Named, Reads, counting, naming}
 use Rattle.octo_session_line_proof.proofs.Arrivals.{phase_refused, replies_refused, greeting_taken, command_taken}
 use Rattle.octo_session_line_proof.proofs.Moves.{phase_up, phase_chat, replies_chat, phase_restart, replies_restart, answer_to, run_open, run_shut, IsAfterStep}
 use Rattle.octo_session_line_proof.proofs.NamedMoves.{IsAfterNamed, named_up, named_chat, named_restart, named_lost, named_run, named_run_shut, refused_by, named_refused, named_greeting_taken, named_command_taken}
@@ -35,8 +35,9 @@ module _ (issued : List (List ℕ)) (s : SenderData) (linked : Bool) (oks : Oks)
 
   -- fewer lines, or others of the same kind, are on the wire to the printer
   pub reads_up : (a : Wires) (down : List (List ℕ)) (up : List Sent) → length up ≤ length a.up → (Each IsSentEarly a.up → Each IsSentEarly up) →
-      (Each (IsSentLate issued) a.up → Each (IsSentLate issued) up) → Reads issued s linked oks a down → Reads issued s linked oks (record a { up = up }) down
-  reads_up a down up le early_so late_so (counting c) = counting (record {
+      (Each (IsSentLate issued) a.up → Each (IsSentLate issued) up) → ((h : ℕ) → AreUpAhead h a.up → AreUpAhead h up) → Reads issued s linked oks a down →
+      Reads issued s linked oks (record a { up = up }) down
+  reads_up a down up le early_so late_so ahead_so (counting c) = counting (record {
     counts = c.counts;
     plain = c.plain;
     way = c.way;
@@ -44,10 +45,10 @@ module _ (issued : List (List ℕ)) (s : SenderData) (linked : Bool) (oks : Oks)
     phase = phase_up issued s linked a c.way up le early_so late_so c.phase;
     replies = c.replies;
   })
-  reads_up a down up le early_so late_so (naming n) = naming (record {
+  reads_up a down up le early_so late_so ahead_so (naming n) = naming (record {
     by_number = n.by_number;
     numbers = n.numbers;
-    phase = named_up issued s linked a (map heard_in down) up le early_so late_so n.phase;
+    phase = named_up issued s linked a (map heard_in down) up le early_so late_so ahead_so n.phase;
     replies = n.replies;
   })
 
@@ -82,7 +83,7 @@ module _ (issued : List (List ℕ)) (s : SenderData) (linked : Bool) (oks : Oks)
   -- the answer to a line that ran
   answered : (piece : Piece) (named : Bool) (reply : List ℕ) → heard_in reply ≡ ok_heard (named_by named (front_in piece)) →
       map heard_in (reply ∷ []) ≡ replies_in (answer_to piece named)
-  answered greeting named reply is = ap (λ (h : Heard). h ∷ []) is
+  answered (greeting number) named reply is = ap (λ (h : Heard). h ∷ []) is
   answered (command place text) named reply is = ap (λ (h : Heard). h ∷ []) is
 
   pub reads_run : (last : ℕ) (a : Wires) (down : List (List ℕ)) (piece : Piece) (queue : List Piece) (named : Bool) (reply : List ℕ) → linked ≡ true →
@@ -125,20 +126,21 @@ module _ (issued : List (List ℕ)) (s : SenderData) (linked : Bool) (oks : Oks)
       (named_refused issued s linked last a (map heard_in down) sent up sound holds printed n.phase n.replies))
 
   -- the line at the front is accepted
-  pub greeting_here : (last number : ℕ) (a : Wires) (down : List (List ℕ)) (up : List Sent) → Printed issued a.ran a.dropped last a.queue a.log →
-      Reads issued s linked oks (record a { up = intact greeting ∷ up }) down →
-      IsTakenHere issued s linked oks number (record a { up = up; queue = a.queue ++ greeting ∷ [] }) down
-  greeting_here last number a down up printed (counting c) =
-      let taken = greeting_taken issued s linked last number a c.way up printed c.phase in
-      record {
+  pub greeting_here : (last lead : ℕ) (a : Wires) (down : List (List ℕ)) (up : List Sent) → NoneEarly s → HoldsIssued issued s →
+      Printed issued a.ran a.dropped last a.queue a.log → Reads issued s linked oks (record a { up = intact (greeting lead) ∷ up }) down →
+      IsTakenHere issued s linked oks hello_number (record a { up = up; queue = a.queue ++ greeting lead ∷ []; dropped = false }) down
+  greeting_here last lead a down up fresh holds printed (counting c) =
+      let taken = greeting_taken issued s linked last hello_number lead a c.way up printed c.phase in
+      let T : Bool → Type 0 = λ d. IsTakenHere issued s linked oks hello_number (record a { up = up; queue = a.queue ++ greeting lead ∷ []; dropped = d }) down in
+      subst T taken.kept (record {
         printed = taken.printed;
         reads = counting (record { counts = c.counts; plain = c.plain; way = c.way; shown = c.shown; phase = taken.phase; replies = c.replies });
-      }
-  greeting_here last number a down up printed (naming n) =
-      let taken = named_greeting_taken issued s linked last number a (map heard_in down) up printed n.phase in
+      })
+  greeting_here last lead a down up fresh holds printed (naming n) =
+      let taken = named_greeting_taken issued s linked last lead a (map heard_in down) up fresh holds printed n.phase n.replies in
       record {
         printed = taken.printed;
-        reads = naming (record { by_number = n.by_number; numbers = n.numbers; phase = taken.phase; replies = n.replies });
+        reads = naming (record { by_number = n.by_number; numbers = n.numbers; phase = taken.phase; replies = taken.replies });
       }
 
   pub command_here : (last place : ℕ) (text : List ℕ) (a : Wires) (down : List (List ℕ)) (up : List Sent) → wire_number place ≡ last + 1 →
@@ -151,8 +153,8 @@ module _ (issued : List (List ℕ)) (s : SenderData) (linked : Bool) (oks : Oks)
         reads = counting (record { counts = c.counts; plain = c.plain; way = c.way; shown = c.shown; phase = taken.phase; replies = c.replies });
       }
   command_here last place text a down up turn printed (naming n) =
-      let taken = named_command_taken issued s linked last place text a (map heard_in down) up turn printed n.phase in
+      let taken = named_command_taken issued s linked last place text a (map heard_in down) up turn printed n.phase n.replies in
       record {
         printed = taken.printed;
-        reads = naming (record { by_number = n.by_number; numbers = n.numbers; phase = taken.phase; replies = n.replies });
+        reads = naming (record { by_number = n.by_number; numbers = n.numbers; phase = taken.phase; replies = taken.replies });
       }

@@ -3,8 +3,9 @@ use Rattle.std.proofs.Common.{◌≡◌, ℕ, true, List, [], ◌++◌, refl, sy
 use Rattle.std.specs.Prelude.{Option, None, Some}
 use Rattle.job_desk.specs.declared.link_fact.LinkFact.{LinkFact}
 use Rattle.job_desk.specs.declared.link_fact.LinkFact.TheVariants as fact
-use Rattle.printer_model.specs.World.{WorldData}
+use Rattle.printer_model.specs.World.{WorldData, apply, world_from}
 use Rattle.printer_model.specs.declared.event.WorldEvent.{WorldEvent}
+use Rattle.printer_model.specs.declared.event.WorldEvent.TheVariants.{Opened}
 use Rattle.printer_link.specs.Link.{LinkKind, world_in}
 use Rattle.send_window.specs.declared.session_end.SessionEnd.{SessionEnd}
 use Rattle.send_window.specs.Data.{SenderData, IsSound}
@@ -18,6 +19,9 @@ use Rattle.octo_session.specs.declared.found.Doing.TheVariants.{Dialling, Hangin
 use Rattle.octo_session_line_proof.specs.AllSent.{AreAllSent}
 use Rattle.octo_session_line_proof.specs.History.{IsMade}
 use Rattle.octo_session_line_proof.specs.Issuing.{issued_after, issued_in}
+use Rattle.octo_session_line_proof.specs.Linked.{start_of}
+use Rattle.octo_session_line_proof.specs.Wires.{Start}
+use Rattle.octo_session_line_proof.proofs.Fitting.{fits_holds, fits_sound}
 use Rattle.octo_session_line_proof.proofs.Quiet.{StaysUp}
 use Rattle.octo_session_line_proof.proofs.Speech.{issued_in_other, issued_turn}
 use Rattle.octo_session_line_proof.proofs.Turned.{IsTurned, talks_up, idle_steps}
@@ -82,5 +86,7 @@ pub made_sends : (moment : ℕ) (kind : LinkKind) (old new : SessionData) (got :
     AreAllSent issued old.sender.acked added → IsTurned moment kind old new got found texts (world_in kind (past ++ added)) more →
     AreAllSent (issued_in found texts issued) new.sender.acked (added ++ more)
 made_sends moment kind old new got found texts issued past added more whole_turn other made all t =
-    let n = made.opened.traced.meets.numbers in
-    turn_sends moment kind old new got found texts issued (world_in kind (past ++ added)) added more whole_turn other t n.holds n.sound all
+    let o = made.opened in
+    let start : Start = start_of kind o.front old.sender.numbered o.rest in
+    let w : WorldData = world_from (apply (world_in kind o.front) (Opened o.last)) o.rest in
+    turn_sends moment kind old new got found texts issued (world_in kind (past ++ added)) added more whole_turn other t (fits_holds start issued old.sender w o.traced.meets) (fits_sound start issued old.sender w o.traced.meets) all

@@ -2,21 +2,22 @@
 use Rattle.std.proofs.Common.{◌≡◌, ℕ, zero, suc, Bool, true, false, List, [], ◌∷◌, ◌++◌, replicate, refl, sym, ◌∙◌, ap, subst, append_assoc, append-nil}
 use Rattle.std.specs.Prelude.{None}
 use Rattle.marlin_reply.specs.Kind.{kind_of}
-use Rattle.marlin_reply.specs.declared.reply.Reply.{Reply}
+use Rattle.send_window.specs.Counting.{Traffic}
 use Rattle.job_desk.specs.declared.link_fact.LinkFact.{LinkFact}
 use Rattle.job_desk.specs.declared.link_fact.LinkFact.TheVariants as fact
 use Rattle.printer_model.specs.World.{WorldData, world_from}
 use Rattle.printer_model.specs.declared.event.WorldEvent.{WorldEvent}
-use Rattle.send_window.specs.Data.{SenderData}
+use Rattle.send_window.specs.Data.{SenderData, NoneEarly}
 use Rattle.send_window.specs.Hearing.{hear_step}
 use Rattle.octo_session.specs.Found.{Got, unasked, lost, nothing, whole, may_issue}
 use Rattle.octo_session.specs.declared.found.Doing.{Doing}
 use Rattle.octo_session.specs.declared.found.Doing.TheVariants.{Dialling, HangingUp, UsingLink, Resting}
 use Rattle.octo_session.specs.Steps.{Step, listens, fails_to_receive, gives, fails_to_send, hangs_up, after_step, after_steps, AreAllowed, AreAdded, issuing, issues_then_sends, clock_steps, steps_over_link, dial_steps, turn_steps}
 use Rattle.octo_session_line_proof.specs.Pieces.{Each}
-use Rattle.octo_session_line_proof.specs.Wires.{Start, Meets}
-use Rattle.octo_session_line_proof.specs.Traces.{IsTallied}
-use Rattle.printer_model.specs.Exchanged.{replies_from}
+use Rattle.octo_session_line_proof.specs.Wires.{Start}
+use Rattle.octo_session_line_proof.specs.Stopped.{Fits}
+use Rattle.octo_session_line_proof.specs.Traces.{HasGreeted, IsTallied}
+use Rattle.octo_session.specs.Sends.{traffic_from}
 use Rattle.octo_session_line_proof.proofs.Free.{Allows, allows_left, allows_right}
 use Rattle.octo_session_line_proof.proofs.Tracing.{extends_none, Leads, leads_then, leads_none}
 use Rattle.octo_session_line_proof.specs.Issuing.{issued_by, issued_after, issued_in}
@@ -24,13 +25,13 @@ use Rattle.octo_session_line_proof.proofs.Stepping.{IsPlain, plain_leads, hears_
 
 -- plain steps, one after another
 pub steps_lead : (start : Start) (moment : ℕ) (is_prompt : Bool) (steps : List Step) (issued : List (List ℕ)) (s : SenderData)
-    (w : WorldData) (replies : List Reply) (added : List WorldEvent) → Each IsPlain steps → AreAllowed moment steps s →
-    AreAdded moment is_prompt steps s w added → Allows start added → Meets start issued s w → IsTallied replies s →
-    Leads start issued (issued_after steps issued) (after_steps moment steps s) w replies added
-steps_lead start moment is_prompt [] issued s w replies added plain allowed none allows m tallied =
-    let L : List WorldEvent → Type 0 = λ es. Leads start issued issued s w replies es in
-    subst L (sym none) (leads_none start issued issued s w replies (extends_none issued) m tallied)
-steps_lead start moment is_prompt (step ∷ steps) issued s w replies added plain allowed is allows m tallied =
+    (w : WorldData) (traffic : List Traffic) (added : List WorldEvent) → Each IsPlain steps → AreAllowed moment steps s →
+    AreAdded moment is_prompt steps s w added → Allows start added → Fits start issued s w → IsTallied traffic s →
+    Leads start issued (issued_after steps issued) (after_steps moment steps s) w traffic added
+steps_lead start moment is_prompt [] issued s w traffic added plain allowed none allows m tallied =
+    let L : List WorldEvent → Type 0 = λ es. Leads start issued issued s w traffic es in
+    subst L (sym none) (leads_none start issued issued s w traffic (extends_none issued) m tallied)
+steps_lead start moment is_prompt (step ∷ steps) issued s w traffic added plain allowed is allows m tallied =
     let first = is.0 in
     let rest = is.1 in
     let A : List WorldEvent → Type 0 = λ es. Allows start es in
@@ -38,12 +39,12 @@ steps_lead start moment is_prompt (step ∷ steps) issued s w replies added plai
     let all : List (List ℕ) = issued_after steps (issued_by step issued) in
     let t : SenderData = after_step moment step s in
     let u : SenderData = after_steps moment steps t in
-    let L : List WorldEvent → Type 0 = λ es. Leads start issued all u w replies es in
-    let one : Leads start issued (issued_by step issued) t w replies first = plain_leads start issued moment s w replies step first plain.0 allowed.0 is.3.0 (allows_left start first rest both) m tallied in
-    let more : Leads start (issued_by step issued) all u (world_from w first) (replies ++ replies_from w first) rest =
-    steps_lead start moment is_prompt steps (issued_by step issued) t (world_from w first) (replies ++ replies_from w first) rest plain.1 allowed.1 is.4 (allows_right start first rest both) one.meets one.tallied
+    let L : List WorldEvent → Type 0 = λ es. Leads start issued all u w traffic es in
+    let one : Leads start issued (issued_by step issued) t w traffic first = plain_leads start issued moment s w traffic step first plain.0 allowed.0 is.3.0 (allows_left start first rest both) m tallied in
+    let more : Leads start (issued_by step issued) all u (world_from w first) (traffic ++ traffic_from w first) rest =
+    steps_lead start moment is_prompt steps (issued_by step issued) t (world_from w first) (traffic ++ traffic_from w first) rest plain.1 allowed.1 is.4 (allows_right start first rest both) one.meets one.tallied
     in
-    subst L (sym is.2) (leads_then start issued (issued_by step issued) all t u w replies first rest one more)
+    subst L (sym is.2) (leads_then start issued (issued_by step issued) all t u w traffic first rest one more)
 
 plain_append : (xs ys : List Step) → Each IsPlain xs → Each IsPlain ys → Each IsPlain (xs ++ ys)
 plain_append [] ys first second = second
@@ -80,16 +81,16 @@ plain_dial fact.NoPort other = (tt, tt)
 plain_dial fact.Failed other = (tt, tt)
 plain_dial (fact.Ended end) other = tt
 
-module _ (start : Start) (moment : ℕ) (is_prompt : Bool) (issued : List (List ℕ)) (s : SenderData) (w : WorldData) (replies : List Reply) (added : List WorldEvent) where
-  talk_leads : (got : Got) (found : LinkFact) (texts : List (List ℕ)) (count : ℕ) → s.ended ≡ None →
+module _ (start : Start) (moment : ℕ) (is_prompt : Bool) (issued : List (List ℕ)) (s : SenderData) (w : WorldData) (traffic : List Traffic) (added : List WorldEvent) where
+  talk_leads : (got : Got) (found : LinkFact) (texts : List (List ℕ)) (count : ℕ) → s.ended ≡ None → NoneEarly s → HasGreeted s.numbered traffic s →
       AreAllowed moment (steps_over_link got found texts count) s → AreAdded moment is_prompt (steps_over_link got found texts count) s w added →
-      Allows start added → Meets start issued s w → IsTallied replies s → Leads start issued (issued_after (steps_over_link got found texts count) issued)
-      (after_steps moment (steps_over_link got found texts count) s) w replies added
-  talk_leads unasked found texts count running allowed is allows m tallied = steps_lead start moment is_prompt [] issued s w replies added tt allowed is allows m tallied
-  talk_leads lost found texts count running allowed is allows m tallied = steps_lead start moment is_prompt (fails_to_receive ∷ []) issued s w replies added (tt, tt) allowed is allows m tallied
-  talk_leads nothing found texts count running allowed is allows m tallied =
-      steps_lead start moment is_prompt (listens ∷ clock_steps found texts count) issued s w replies added (tt, plain_clock found texts count) allowed is allows m tallied
-  talk_leads (whole bytes) found texts count running allowed is allows m tallied =
+      Allows start added → Fits start issued s w → IsTallied traffic s → Leads start issued (issued_after (steps_over_link got found texts count) issued)
+      (after_steps moment (steps_over_link got found texts count) s) w traffic added
+  talk_leads unasked found texts count running fresh greets allowed is allows m tallied = steps_lead start moment is_prompt [] issued s w traffic added tt allowed is allows m tallied
+  talk_leads lost found texts count running fresh greets allowed is allows m tallied = steps_lead start moment is_prompt (fails_to_receive ∷ []) issued s w traffic added (tt, tt) allowed is allows m tallied
+  talk_leads nothing found texts count running fresh greets allowed is allows m tallied =
+      steps_lead start moment is_prompt (listens ∷ clock_steps found texts count) issued s w traffic added (tt, plain_clock found texts count) allowed is allows m tallied
+  talk_leads (whole bytes) found texts count running fresh greets allowed is allows m tallied =
       let first = is.0 in
       let rest = is.1 in
       let A : List WorldEvent → Type 0 = λ es. Allows start es in
@@ -98,24 +99,24 @@ module _ (start : Start) (moment : ℕ) (is_prompt : Bool) (issued : List (List 
       let t : SenderData = hear_step (kind_of bytes) moment s in
       let u : SenderData = after_steps moment steps t in
       let all : List (List ℕ) = issued_after steps issued in
-      let L : List WorldEvent → Type 0 = λ es. Leads start issued all u w replies es in
-      let one : Leads start issued issued t w replies first = hears_leads start issued moment s w replies bytes first running is.3.0 (allows_left start first rest both) m tallied in
-      let more : Leads start issued all u (world_from w first) (replies ++ replies_from w first) rest =
-      steps_lead start moment is_prompt steps issued t (world_from w first) (replies ++ replies_from w first) rest (plain_clock found texts count) allowed.1 is.4 (allows_right start first rest both) one.meets one.tallied
+      let L : List WorldEvent → Type 0 = λ es. Leads start issued all u w traffic es in
+      let one : Leads start issued issued t w traffic first = hears_leads start issued moment s w traffic bytes first running is.3.0 (allows_left start first rest both) m fresh greets tallied in
+      let more : Leads start issued all u (world_from w first) (traffic ++ traffic_from w first) rest =
+      steps_lead start moment is_prompt steps issued t (world_from w first) (traffic ++ traffic_from w first) rest (plain_clock found texts count) allowed.1 is.4 (allows_right start first rest both) one.meets one.tallied
       in
-      subst L (sym is.2) (leads_then start issued issued all t u w replies first rest one more)
+      subst L (sym is.2) (leads_then start issued issued all t u w traffic first rest one more)
 
   -- a turn that makes no link
   pub turn_leads : (doing_now : Doing) (was_up : Bool) (got : Got) (found : LinkFact) (texts : List (List ℕ)) (count : ℕ) →
-      (found ≡ fact.Opened → ⊥) → (doing_now ≡ UsingLink → s.ended ≡ None) →
+      (found ≡ fact.Opened → ⊥) → (doing_now ≡ UsingLink → s.ended ≡ None) → (doing_now ≡ UsingLink → NoneEarly s) → (doing_now ≡ UsingLink → HasGreeted s.numbered traffic s) →
       AreAllowed moment (turn_steps doing_now was_up got found texts count) s →
-      AreAdded moment is_prompt (turn_steps doing_now was_up got found texts count) s w added → Allows start added → Meets start issued s w →
-      IsTallied replies s → Leads start issued (issued_after (turn_steps doing_now was_up got found texts count) issued)
-      (after_steps moment (turn_steps doing_now was_up got found texts count) s) w replies added
-  turn_leads Dialling was_up got found texts count other running allowed is allows m tallied = steps_lead start moment is_prompt (dial_steps found) issued s w replies added (plain_dial found other) allowed is allows m tallied
-  turn_leads HangingUp was_up got found texts count other running allowed is allows m tallied = steps_lead start moment is_prompt (hangs_up was_up ∷ []) issued s w replies added (tt, tt) allowed is allows m tallied
-  turn_leads UsingLink was_up got found texts count other running allowed is allows m tallied = talk_leads got found texts count (running refl) allowed is allows m tallied
-  turn_leads Resting was_up got found texts count other running allowed is allows m tallied = steps_lead start moment is_prompt [] issued s w replies added tt allowed is allows m tallied
+      AreAdded moment is_prompt (turn_steps doing_now was_up got found texts count) s w added → Allows start added → Fits start issued s w →
+      IsTallied traffic s → Leads start issued (issued_after (turn_steps doing_now was_up got found texts count) issued)
+      (after_steps moment (turn_steps doing_now was_up got found texts count) s) w traffic added
+  turn_leads Dialling was_up got found texts count other running fresh greets allowed is allows m tallied = steps_lead start moment is_prompt (dial_steps found) issued s w traffic added (plain_dial found other) allowed is allows m tallied
+  turn_leads HangingUp was_up got found texts count other running fresh greets allowed is allows m tallied = steps_lead start moment is_prompt (hangs_up was_up ∷ []) issued s w traffic added (tt, tt) allowed is allows m tallied
+  turn_leads UsingLink was_up got found texts count other running fresh greets allowed is allows m tallied = talk_leads got found texts count (running refl) (fresh refl) (greets refl) allowed is allows m tallied
+  turn_leads Resting was_up got found texts count other running fresh greets allowed is allows m tallied = steps_lead start moment is_prompt [] issued s w traffic added tt allowed is allows m tallied
 
 -- which texts the steps issue
 issued_after-append : (xs ys : List Step) (issued : List (List ℕ)) → issued_after (xs ++ ys) issued ≡ issued_after ys (issued_after xs issued)

@@ -1,5 +1,5 @@
 -- A `start` on the wire from the printer comes of a restart in the session.
-use Rattle.std.proofs.Common.{◌≡◌, ℕ, ◌-◌, ◌≤◌, Bool, true, false, not, List, [], ◌∷◌, ◌++◌, length, map, drop, refl, sym, ◌∙◌, ap, subst, append_assoc, append-nil, arith}
+use Rattle.std.proofs.Common.{◌≡◌, ℕ, ◌-◌, ◌<◌, ◌≤◌, ◌^◌, Bool, true, false, not, List, [], ◌∷◌, ◌++◌, length, map, drop, refl, sym, ◌∙◌, ap, subst, append_assoc, append-nil, arith}
 use Rattle.std.specs.Prelude.{Some, Ok, Err, Result, if◌then◌else◌}
 use Rattle.std.specs.List.{list_any, list_all}
 use Rattle.std.proofs.lemmas.Bool.{or_left, or_right, cond_both, and_parts}
@@ -14,12 +14,14 @@ use Rattle.printer_model.specs.declared.printer.Reason.{Reason}
 use Rattle.printer_model.specs.declared.printer.Taken.TheVariants.{Full}
 use Rattle.printer_model.proofs.Laws.{after_event, stays, run_queue_of}
 use Rattle.send_window.specs.Data.{SenderData}
-use Rattle.octo_session_line_proof.specs.Pieces.{Piece, Each, heard_in, talk_heard, ok_heard, named_by, entry_in, front_in, text_in}
-use Rattle.octo_session_line_proof.specs.Wires.{Start, Wires, Shows, Numbers, Meets}
+use Rattle.octo_session_line_proof.specs.Pieces.{Piece, greeting, command, Each, heard_in, talk_heard, ok_heard, named_by, entry_in, front_in, text_in}
+use Rattle.octo_session_line_proof.specs.Wires.{Start, Wires, Shows, Printed}
+use Rattle.octo_session_line_proof.specs.Stopped.{IsHelloOrFirst, Fits, met, stopped}
 use Rattle.octo_session_line_proof.specs.Traces.{IsStartKnown}
 use Rattle.octo_session_line_proof.proofs.Lists.{each_remove, each_push, each_so}
 use Rattle.octo_session_line_proof.proofs.Reading.{heard_error, heard_resend, heard_ok, heard_chatter, run_heard, IsRunReply}
-use Rattle.octo_session_line_proof.proofs.Free.{free_meets, front_small, Allows, allows_rest}
+use Rattle.octo_session_line_proof.proofs.Fitting.{free_fits}
+use Rattle.octo_session_line_proof.proofs.Free.{front_small, Allows, allows_rest}
 
 -- more events keep what is known
 known_more : (events more : List WorldEvent) (line : List ℕ) → IsStartKnown events line → IsStartKnown (events ++ more) line
@@ -62,6 +64,11 @@ arrived_starts : (events : List WorldEvent) (w : WorldData) (up : List (List ℕ
 arrived_starts events w [] all = all
 arrived_starts events w (line ∷ behind) all = each_append (IsStartKnown events) w.down (taken_replies (take_line w.printer line).0) all (taken_starts events w.printer line)
 
+-- a hello and the first line have numbers that fit
+first_small : (issued : List (List ℕ)) (piece : Piece) → IsHelloOrFirst issued piece → front_in piece < 2 ^ 32
+first_small issued (greeting number) small = omega arith
+first_small issued (command place text) is = omega (arith, is.0)
+
 module _ (start : Start) (issued : List (List ℕ)) (s : SenderData) (events : List WorldEvent) where
   replied_starts : (w : WorldData) (reply : List ℕ) (on : Bool) → w.linked ≡ on → IsStartKnown events reply → Each (IsStartKnown events) w.down →
       Each (IsStartKnown events) (down_with_reply w reply)
@@ -73,22 +80,31 @@ module _ (start : Start) (issued : List (List ℕ)) (s : SenderData) (events : L
       subst E (sym (ap (λ (b : Bool). if b then w.down ++ reply ∷ [] else w.down) off)) all
 
   run_starts : (w : WorldData) (a : Wires) (queue : List Piece) → Shows start (record a { queue = queue }) w →
-      Numbers issued s w.printer.last (record a { queue = queue }) → Each (IsStartKnown events) w.down → Each (IsStartKnown events) (apply w Run).down
-  run_starts w a [] sh n all =
+      ((piece : Piece) (rest : List Piece) → queue ≡ piece ∷ rest → front_in piece < 2 ^ 32) → Each (IsStartKnown events) w.down → Each (IsStartKnown events) (apply w Run).down
+  run_starts w a [] sh small all =
       let E : WorldData → Type 0 = λ v. Each (IsStartKnown events) v.down in
       let cannot : can_happen w Run ≡ false = ap (λ (q : List Entry). not (is_empty q)) sh.queue in
       subst E (sym (stays w Run cannot)) all
-  run_starts w a (piece ∷ queue) sh n all =
+  run_starts w a (piece ∷ queue) sh small all =
       let E : WorldData → Type 0 = λ v. Each (IsStartKnown events) v.down in
-      let few : length issued ≤ 1999999999 = omega (arith, n.holds.count, n.sound.few) in
       let free = w.printer.slots - length w.printer.queue in
       let reply = run_reply w.printer.oks.numbered (Some (front_in piece)) (text_in piece) free in
-      let its : IsRunReply reply (front_in piece) = run_heard w.printer.oks.numbered (front_in piece) free (text_in piece) (front_small issued a.ran a.dropped w.printer.last piece queue a.log few n.printed) (omega (arith, sh.few)) in
+      let its : IsRunReply reply (front_in piece) = run_heard w.printer.oks.numbered (front_in piece) free (text_in piece) (small piece queue refl) (omega (arith, sh.few)) in
       let known : IsStartKnown events reply = λ is. (let ok : heard_in reply ≡ ok_heard (named_by its.named (front_in piece)) = its.heard in absurd (cc)) in
       subst E (sym (run_queue_of w (entry_in piece) (map entry_in queue) sh.queue)) (replied_starts w reply w.linked refl known all)
 
+  -- with or without a line before the `ok` of the hello
+  fits_starts : (w : WorldData) → Fits start issued s w → Each (IsStartKnown events) w.down → Each (IsStartKnown events) (apply w Run).down
+  fits_starts w (met m) all =
+      let a = m.wires in
+      let few : length issued ≤ 1999999999 = omega (arith, m.numbers.holds.count, m.numbers.sound.few) in
+      let P : List Piece → Type 0 = λ q. Printed issued a.ran a.dropped w.printer.last q a.log in
+      run_starts w a a.queue m.shows (λ piece rest is. front_small issued a.ran a.dropped w.printer.last piece rest a.log few (subst P is m.numbers.printed)) all
+  fits_starts w (stopped m) all =
+      run_starts w m.wires m.wires.queue m.shows (λ piece rest is. first_small issued piece (subst (Each (IsHelloOrFirst issued)) is m.queue).0) all
+
   -- an event of the line or the printer
-  event_starts : (w : WorldData) (event : WorldEvent) → is_free event ≡ true → Meets start issued s w → Each (IsStartKnown events) w.down →
+  event_starts : (w : WorldData) (event : WorldEvent) → is_free event ≡ true → Fits start issued s w → Each (IsStartKnown events) w.down →
       Each (IsStartKnown (events ++ event ∷ [])) (apply w event).down
   event_starts w (Opened last) free m all = absurd (cc)
   event_starts w (Send line) free m all = absurd (cc)
@@ -103,7 +119,7 @@ module _ (start : Start) (issued : List (List ℕ)) (s : SenderData) (events : L
       (λ can. each_remove (IsStartKnown (events ++ LoseReply at ∷ [])) w.down at later)
   event_starts w (Garble at line) free m all =
       after_event (λ v. Each (IsStartKnown (events ++ Garble at line ∷ [])) v.down) w (Garble at line) (starts_more events (Garble at line ∷ []) w.down all) (λ can. starts_more events (Garble at line ∷ []) w.down all)
-  event_starts w Run free m all = starts_more events (Run ∷ []) (apply w Run).down (run_starts w m.wires m.wires.queue m.shows m.numbers all)
+  event_starts w Run free m all = starts_more events (Run ∷ []) (apply w Run).down (fits_starts w m all)
   event_starts w Restart free m all =
       all_of (IsStartKnown (events ++ Restart ∷ [])) (λ line is. list_any-append is_restart events (Restart ∷ []) ∙ or_right (list_any is_restart events) (list_any is_restart (Restart ∷ [])) refl) (apply w Restart).down
   event_starts w (Chatter reply) free m all =
@@ -115,7 +131,7 @@ module _ (start : Start) (issued : List (List ℕ)) (s : SenderData) (events : L
 
 -- several of them
 pub free_starts : (start : Start) (issued : List (List ℕ)) (s : SenderData) (w : WorldData) (events more : List WorldEvent) →
-    list_all is_free more ≡ true → Allows start more → Meets start issued s w → Each (IsStartKnown events) w.down → Each (IsStartKnown (events ++ more)) (world_from w more).down
+    list_all is_free more ≡ true → Allows start more → Fits start issued s w → Each (IsStartKnown events) w.down → Each (IsStartKnown (events ++ more)) (world_from w more).down
 free_starts start issued s w events [] free allows m all =
     let E : List WorldEvent → Type 0 = λ es. Each (IsStartKnown es) w.down in
     subst E (sym (append-nil events)) all
@@ -124,4 +140,4 @@ free_starts start issued s w events (event ∷ more) free allows m all =
     let E : List WorldEvent → Type 0 = λ es. Each (IsStartKnown es) (world_from (apply w event) more).down in
     subst E (append_assoc events (event ∷ []) more)
     (free_starts start issued s (apply w event) (events ++ event ∷ []) more (and_parts (is_free event) (list_all is_free more) free).1 (allows_rest start event more allows)
-    (free_meets start issued s w event first (λ is. allows (or_left (is_restart event) (list_any is_restart more) is)) m) (event_starts start issued s events w event first m all))
+    (free_fits start issued s w event first (λ is. allows (or_left (is_restart event) (list_any is_restart more) is)) m) (event_starts start issued s events w event first m all))

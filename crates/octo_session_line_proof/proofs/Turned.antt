@@ -1,6 +1,6 @@
 -- What a turn made of a session, by its steps.
-use Rattle.std.proofs.Common.{◌≡◌, ◌≢◌, ◌↔◌, ℕ, Bool, true, false, List, [], ◌∷◌, ◌++◌, refl, sym, ◌∙◌, ap, arith}
-use Rattle.std.specs.Prelude.{None, Some}
+use Rattle.std.proofs.Common.{◌≡◌, ◌≢◌, ◌⊎◌, inl, inr, ◌↔◌, ℕ, Bool, true, false, List, [], ◌∷◌, ◌++◌, refl, sym, ◌∙◌, ap, arith}
+use Rattle.std.specs.Prelude.{◌==◌, length, None, Some}
 use Rattle.std.proofs.lemmas.Grind.{common_steps}
 use Rattle.job_desk.specs.declared.link_fact.LinkFact.{LinkFact}
 use Rattle.job_desk.specs.declared.link_fact.LinkFact.TheVariants as fact
@@ -9,15 +9,18 @@ use Rattle.printer_model.specs.declared.event.WorldEvent.{WorldEvent}
 use Rattle.printer_model.specs.declared.event.WorldEvent.TheVariants.{Opened}
 use Rattle.printer_model.proofs.Laws.{world_of-append}
 use Rattle.printer_link.specs.Link.{LinkKind, world_in}
-use Rattle.send_window.specs.Data.{SenderData, IsSound}
+use Rattle.send_window.specs.Data.{SenderData, IsSound, NoneEarly}
 use Rattle.send_window.specs.Sending.{next_of}
-use Rattle.octo_session.specs.Data.{SessionData, IsSession, doing}
+use Rattle.octo_session.specs.Data.{SessionData, IsSession, IsStopped, doing}
+use Rattle.job_desk.specs.Data.{Data}
+use Rattle.job_desk.specs.Table.{is_closable, is_closable_at}
 use Rattle.octo_session.specs.Found.{Got, unasked, lost, may_issue, end_by, can_find, up_after}
 use Rattle.send_window.specs.declared.session_end.SessionEnd.{SessionEnd}
 use Rattle.octo_session.specs.declared.found.Doing.{Doing}
 use Rattle.octo_session.specs.declared.found.Doing.TheVariants.{Dialling, HangingUp, UsingLink, Resting}
 use Rattle.octo_session.specs.Steps.{after_steps, AreAllowed, AreAdded, turn_steps}
-use Rattle.octo_session_line_proof.specs.Linked.{IsLinked, unopened, opened}
+use Rattle.octo_session_line_proof.specs.Linked.{start_of, IsLinked, unopened, opened}
+use Rattle.octo_session_line_proof.proofs.Fitting.{fits_sound}
 use Rattle.octo_session_line_proof.proofs.Open.{IsUpFor, steps_up, up_all, turn_up}
 use Rattle.octo_session_line_proof.proofs.Quiet.{StaysUp}
 
@@ -39,6 +42,24 @@ pub record IsTurned (moment : ℕ) (kind : LinkKind) (old new : SessionData) (go
 -- a turn uses the link only if it is up, and dials only if it isn't
 pub talks_up : (x : SessionData) → doing x ≡ UsingLink → x.up ≡ true
 talks_up x is = grind (arith, common_steps)
+
+-- and then no line was issued before the `ok` of the hello
+talks_open : (x : SessionData) → doing x ≡ UsingLink → is_closable_at x.desk.state x.desk ≡ false
+talks_open x is = grind (arith, common_steps)
+
+stopped_closes : (d : Data) → IsStopped d → is_closable_at d.state d ≡ true
+stopped_closes d st =
+    ap (λ s. is_closable_at s d) st.closes ∙ ap (λ b. is_closable b d) st.stops ∙ ap (λ (m : List (List ℕ)). length m == 0) st.issued
+
+pub talks_fresh : (x : SessionData) → IsSession x → doing x ≡ UsingLink → NoneEarly x.sender
+talks_fresh x joined is = by (joined.early (talks_up x is))
+  where
+    by : NoneEarly x.sender ⊎ IsStopped x.desk → NoneEarly x.sender
+    by (inl fresh) = fresh
+    by (inr st) =
+        let closes : is_closable_at x.desk.state x.desk ≡ true = stopped_closes x.desk st in
+        let open_still : is_closable_at x.desk.state x.desk ≡ false = talks_open x is in
+        absurd (cc)
 
 pub dials_down : (x : SessionData) → doing x ≡ Dialling → x.up ≡ false
 dials_down x is = grind (arith, common_steps)
@@ -78,7 +99,8 @@ world_since kind past front last rest is =
 
 pub sound_of : (kind : LinkKind) (issued : List (List ℕ)) (x : SessionData) (past : List WorldEvent) → IsLinked kind issued x past → IsSound x.sender
 sound_of kind issued x past (unopened u) = u.sound
-sound_of kind issued x past (opened o) = o.traced.meets.numbers.sound
+sound_of kind issued x past (opened o) =
+    fits_sound (start_of kind o.front x.sender.numbered o.rest) issued x.sender (world_from (apply (world_in kind o.front) (Opened o.last)) o.rest) o.traced.meets
 
 pub linked_as : (kind : LinkKind) (issued : List (List ℕ)) (x : SessionData) (past : List WorldEvent) → IsLinked kind issued x past →
     (world_in kind past).linked ≡ x.up

@@ -1,19 +1,18 @@
 -- A turn leaves session, issued texts and history linked.
 use Rattle.std.proofs.Common.{◌≡◌, ◌⊎◌, inl, inr, ℕ, ◌≤◌, Bool, true, false, List, [], ◌∷◌, ◌++◌, refl, sym, ◌∙◌, ap, subst, append_assoc, append-nil, arith}
 use Rattle.std.specs.Prelude.{None}
-use Rattle.marlin_reply.specs.declared.reply.Reply.{Reply}
 use Rattle.job_desk.specs.declared.link_fact.LinkFact.{LinkFact}
 use Rattle.job_desk.specs.declared.link_fact.LinkFact.TheVariants as fact
 use Rattle.printer_model.specs.World.{new_world, WorldData, can_happen, is_restart, apply, world_from}
-use Rattle.printer_model.specs.Exchanged.{sends_since, replies_from}
+use Rattle.printer_model.specs.Exchanged.{sends_since}
 use Rattle.printer_model.specs.declared.event.WorldEvent.{WorldEvent}
 use Rattle.printer_model.specs.declared.event.WorldEvent.TheVariants.{Opened}
 use Rattle.printer_model.proofs.Laws.{happens, world_from-append, world_of-append, world_from-IsSameKind}
 use Rattle.printer_model.proofs.Sessions.{opens-append}
 use Rattle.printer_model.proofs.Starts.{sends_since-append}
 use Rattle.printer_link.specs.Link.{LinkKind, world_in}
-use Rattle.send_window.specs.Counting.{IsQuiet}
-use Rattle.send_window.specs.Data.{SenderData, IsSound, sender_after_dial}
+use Rattle.send_window.specs.Counting.{IsQuiet, Traffic}
+use Rattle.send_window.specs.Data.{SenderData, IsSound, NoneEarly, sender_after_dial}
 use Rattle.octo_session.specs.Data.{SessionData, doing}
 use Rattle.octo_session.specs.Found.{Got, unasked, may_issue, can_find, up_after}
 use Rattle.octo_session.specs.declared.found.Doing.{Doing}
@@ -22,12 +21,15 @@ use Rattle.octo_session.specs.Steps.{opens, after_steps, AreAllowed, AreAdded, d
 use Rattle.std.specs.List.{list_any}
 use Rattle.std.proofs.lemmas.Bool.{or_left, or_right}
 use Rattle.std.proofs.lemmas.List.Folds.{list_any-append}
-use Rattle.octo_session_line_proof.proofs.Free.{widen_meets}
-use Rattle.octo_session_line_proof.specs.Wires.{Start, Meets}
-use Rattle.octo_session_line_proof.specs.Traces.{HasCounted, IsTallied, IsStartKnown, IsTraced}
+use Rattle.octo_session_line_proof.proofs.Fitting.{fits_kind, fits_sound, widen_fits}
+use Rattle.octo_session_line_proof.specs.Wires.{Start}
+use Rattle.octo_session_line_proof.specs.Stopped.{Fits, met}
+use Rattle.octo_session_line_proof.specs.Traces.{HasCounted, HasGreeted, IsTallied, IsStartKnown, IsTraced}
 use Rattle.octo_session_line_proof.specs.Pieces.{Each}
 use Rattle.octo_session_line_proof.proofs.Sending.{opened_meets}
-use Rattle.octo_session_line_proof.proofs.Tracing.{Leads, fits_append, replies_from-append}
+use Rattle.octo_session_line_proof.proofs.Tracing.{Leads, fits_append}
+use Rattle.octo_session_line_proof.proofs.Traffic.{traffic_from-append}
+use Rattle.octo_session.specs.Sends.{traffic_from}
 use Rattle.octo_session_line_proof.specs.Issuing.{issued_after, issued_in}
 use Rattle.octo_session_line_proof.specs.Linked.{start_of, IsUnopened, IsOpened, IsLinked, unopened, opened}
 use Rattle.octo_session.specs.Causes.{IsCaused}
@@ -36,9 +38,10 @@ use Rattle.printer_model.specs.declared.oks.Oks.{Oks}
 use Rattle.octo_session_line_proof.proofs.Causes.{talk_caused}
 use Rattle.octo_session_line_proof.proofs.Unchanged.{steps_kind}
 use Rattle.octo_session_line_proof.proofs.Ends.{IsStill, still_caused, idle_turn, still_idle}
+use Rattle.octo_session_line_proof.proofs.Greets.{talk_greets}
 use Rattle.octo_session_line_proof.proofs.Speech.{turn_leads, issued_turn}
 use Rattle.octo_session_line_proof.proofs.Quiet.{StaysUp, talk_quiet}
-use Rattle.octo_session_line_proof.proofs.Turned.{IsTurned, talks_up, dials_down, rests_down, linked_after, opens_dialling, world_since, sound_of, linked_as, world_then, idle_steps, down_after}
+use Rattle.octo_session_line_proof.proofs.Turned.{IsTurned, talks_up, talks_fresh, dials_down, rests_down, linked_after, opens_dialling, world_since, sound_of, linked_as, world_then, idle_steps, down_after}
 
 suits_of : (kind : LinkKind) (issued : List (List ℕ)) (x : SessionData) (past : List WorldEvent) → IsLinked kind issued x past → Suits x.sender.numbered kind.oks
 suits_of kind issued x past (unopened u) = u.suits
@@ -48,6 +51,10 @@ suits_of kind issued x past (opened o) = o.suits
 none_counted : (s : SenderData) (numbered : Bool) → HasCounted numbered [] (sender_after_dial s)
 none_counted s false = record { pending = refl; counted = refl }
 none_counted s true = record { greeted = refl; named = refl }
+
+none_greeted : (s : SenderData) (numbered : Bool) → HasGreeted numbered [] (sender_after_dial s)
+none_greeted s false = tt
+none_greeted s true = refl
 
 -- a link is made
 opened_by : (kind : LinkKind) (old new : SessionData) (past added runs : List WorldEvent) (last : ℕ) → IsSound old.sender → Suits old.sender.numbered kind.oks →
@@ -64,9 +71,9 @@ opened_by kind old new past added runs last sound suits few is can sender open_a
     let few_here : (world_in kind front).printer.slots ≤ 16 = subst Few (sym here) few_there in
     let O : Oks → Type 0 = λ oks. Suits old.sender.numbered oks in
     let suits_here : Suits old.sender.numbered (world_in kind front).printer.oks = subst O (sym (world_from-IsSameKind (new_world kind.slots kind.oks) front).oks) suits in
-    let M : WorldData → Type 0 = λ w. Meets (start_of kind front old.sender.numbered []) [] (sender_after_dial old.sender) w in
-    let met : Meets (start_of kind front old.sender.numbered []) [] (sender_after_dial old.sender) (apply (world_in kind front) (Opened last)) =
-    subst M (sym (happens (world_in kind front) (Opened last) can_here)) (opened_meets old.sender (world_in kind front) last sound few_here suits_here can_here)
+    let M : WorldData → Type 0 = λ w. Fits (start_of kind front old.sender.numbered []) [] (sender_after_dial old.sender) w in
+    let fits : Fits (start_of kind front old.sender.numbered []) [] (sender_after_dial old.sender) (apply (world_in kind front) (Opened last)) =
+    subst M (sym (happens (world_in kind front) (Opened last) can_here)) (met (opened_meets old.sender (world_in kind front) last sound few_here suits_here can_here))
     in
     let D : WorldData → Type 0 = λ w. Each (IsStartKnown []) w.down in
     let none_down : Each (IsStartKnown []) (apply (world_in kind front) (Opened last)).down = subst D (sym (happens (world_in kind front) (Opened last) can_here)) tt in
@@ -74,15 +81,17 @@ opened_by kind old new past added runs last sound suits few is can sender open_a
     let Q : SenderData → Type 0 = λ s. IsQuiet 0 s in
     let C : SenderData → Type 0 = λ s. IsCaused s.numbered s.ended (apply (world_in kind front) (Opened last)) [] in
     let K : SenderData → Type 0 = λ s. Suits s.numbered kind.oks in
+    let G : SenderData → Type 0 = λ s. HasGreeted s.numbered [] s in
     record {
       front = front;
       last = last;
       rest = [];
       is = ap (λ (es : List WorldEvent). past ++ es) is ∙ sym (append_assoc past runs (Opened last ∷ []));
       can = can_here;
-      traced = subst S (sym sender) (record { same_session = refl; meets = met; tallied = record { counts = none_counted old.sender old.sender.numbered; asked = λ (a : false ≡ true). absurd (cc) }; sends = tt; starts = none_down });
+      traced = subst S (sym sender) (record { same_session = refl; meets = fits; tallied = record { counts = none_counted old.sender old.sender.numbered; asked = λ (a : false ≡ true). absurd (cc) }; sends = tt; starts = none_down });
       open_as = open_as;
       quiet = λ up. subst Q (sym sender) (record { sent_enough = λ _ _ _. omega arith });
+      greets = λ up fresh. subst G (sym sender) (none_greeted old.sender old.sender.numbered);
       caused = subst C (sym sender) tt;
       suits = subst K (sym sender) suits;
     }
@@ -172,17 +181,19 @@ module _ (moment : ℕ) (kind : LinkKind) (old new : SessionData) (got : Got) (f
       let steps = turn_steps (doing old) old.up got found texts t.count in
       let W : WorldData → Type 0 = λ w. AreAdded moment kind.prompt steps old.sender w added in
       let running : doing old ≡ UsingLink → old.sender.ended ≡ None = λ talks. t.joined.running (talks_up old talks) in
-      let replies : List Reply = replies_from base o.rest in
+      let traffic : List Traffic = traffic_from base o.rest in
       let more : List (List ℕ) = issued_after steps issued in
-      let led : Leads start issued more (after_steps moment steps old.sender) (world_from base o.rest) replies added =
-      turn_leads start moment kind.prompt issued old.sender (world_from base o.rest) replies added (doing old) old.up got found texts t.count other running t.allowed (subst W here t.steps) newer
-      (widen_meets (start_of kind o.front old.sender.numbered o.rest) (list_any is_restart (o.rest ++ added)) issued old.sender (world_from base o.rest) older o.traced.meets) o.traced.tallied
+      let fresh : doing old ≡ UsingLink → NoneEarly old.sender = talks_fresh old t.joined in
+      let greets : doing old ≡ UsingLink → HasGreeted old.sender.numbered traffic old.sender = λ talks. o.greets (talks_up old talks) (fresh talks) in
+      let led : Leads start issued more (after_steps moment steps old.sender) (world_from base o.rest) traffic added =
+      turn_leads start moment kind.prompt issued old.sender (world_from base o.rest) traffic added (doing old) old.up got found texts t.count other running fresh greets t.allowed (subst W here t.steps) newer
+      (widen_fits (start_of kind o.front old.sender.numbered o.rest) (list_any is_restart (o.rest ++ added)) issued old.sender (world_from base o.rest) older o.traced.meets) o.traced.tallied
       in
       let same : more ≡ issued_in found texts issued = issued_turn (doing old) old.up got found texts t.count issued other t.none_issued t.asked.1 in
       let rest : List WorldEvent = o.rest ++ added in
-      let M : WorldData → Type 0 = λ w. Meets start more (after_steps moment steps old.sender) w in
+      let M : WorldData → Type 0 = λ w. Fits start more (after_steps moment steps old.sender) w in
       let E : WorldData → Type 0 = λ w. Each (IsStartKnown rest) w.down in
-      let R : List Reply → Type 0 = λ l. IsTallied l (after_steps moment steps old.sender) in
+      let R : List Traffic → Type 0 = λ l. IsTallied l (after_steps moment steps old.sender) in
       let I : List (List ℕ) → Type 0 = λ l. IsTraced start base l (after_steps moment steps old.sender) rest in
       let S : SenderData → Type 0 = λ s. IsTraced (start_of kind o.front s.numbered rest) base (issued_in found texts issued) s rest in
       let B : Bool → Type 0 = λ b. IsTraced (start_of kind o.front b rest) base (issued_in found texts issued) (after_steps moment steps old.sender) rest in
@@ -193,15 +204,16 @@ module _ (moment : ℕ) (kind : LinkKind) (old new : SessionData) (got : Got) (f
         rest = rest;
         is = ap (λ (es : List WorldEvent). es ++ added) o.is ∙ append_assoc o.front (Opened o.last ∷ o.rest) added;
         can = o.can;
-        traced = subst S (sym t.sender) (subst B (sym led.meets.begun.kind) (subst I same (record {
+        traced = subst S (sym t.sender) (subst B (sym (fits_kind start more (after_steps moment steps old.sender) (world_from (world_from base o.rest) added) led.meets)) (subst I same (record {
           same_session = omega (arith, opens-append o.rest added, o.traced.same_session, led.same_session);
           meets = subst M (sym (world_from-append base o.rest added)) led.meets;
-          tallied = subst R (sym (replies_from-append base o.rest added)) led.tallied;
+          tallied = subst R (sym (traffic_from-append base o.rest added)) led.tallied;
           sends = fits_append start.numbered issued more [] base o.rest added led.extends o.traced.sends led.sends;
           starts = subst E (sym (world_from-append base o.rest added)) (led.starts o.rest o.traced.starts);
         })));
         open_as = ap (λ (w : WorldData). w.linked) (world_then kind past added) ∙ linked_after moment kind old new got found texts (world_in kind past) added t o.open_as;
         quiet = λ up. still_quiet up t o;
+        greets = λ up fresh. still_greets up fresh t o;
         caused = caused_by (doing old) refl t o;
         suits = subst K (sym (turn_kind moment kind old new got found texts (world_in kind past) added t)) o.suits;
       }
@@ -269,7 +281,7 @@ module _ (moment : ℕ) (kind : LinkKind) (old new : SessionData) (got : Got) (f
           in
           let K : Bool → Type 0 = λ b. IsCaused b (after_steps moment (steps_over_link got found texts t.count) old.sender).ended made (o.rest ++ added) in
           subst C (sym sender) (subst K (sym (steps_kind moment (steps_over_link got found texts t.count) old.sender)) (talk_caused moment kind.prompt found texts t.count (start_of kind o.front old.sender.numbered o.rest) made issued old.sender o.rest got added (subst F is t.can) (λ un. (t.asked.0 un) is) t.ended
-          (t.joined.running (talks_up old is)) (o.quiet (talks_up old is)) (λ r. r) o.traced (subst W here (subst B is t.steps))))
+          (t.joined.running (talks_up old is)) (o.quiet (talks_up old is)) (λ r. r) (talks_fresh old t.joined is) (o.greets (talks_up old is) (talks_fresh old t.joined is)) o.traced (subst W here (subst B is t.steps))))
       caused_by Dialling is t o = caused_idle (λ (i : doing old ≡ UsingLink). (let e : Dialling ≡ UsingLink = sym is ∙ i in absurd (cc))) t o
       caused_by HangingUp is t o = caused_idle (λ (i : doing old ≡ UsingLink). (let e : HangingUp ≡ UsingLink = sym is ∙ i in absurd (cc))) t o
       caused_by Resting is t o = caused_idle (λ (i : doing old ≡ UsingLink). (let e : Resting ≡ UsingLink = sym is ∙ i in absurd (cc))) t o
@@ -285,7 +297,25 @@ module _ (moment : ℕ) (kind : LinkKind) (old new : SessionData) (got : Got) (f
           let Q : ℕ → Type 0 = λ n. IsQuiet n new.sender in
           subst Q (sym (sends_since-append 0 o.rest added))
           (talk_quiet moment (sends_since 0 o.rest) kind.prompt got found texts t.count old.sender new.sender (world_in kind past) added (λ un. (t.asked.0 un) is) t.broken so
-          o.traced.meets.numbers.sound (o.quiet (talks_up old is)) (subst A is t.allowed) (subst B is t.steps) (subst C is t.sender) (t.unsent up so))
+          (fits_sound (start_of kind o.front old.sender.numbered o.rest) issued old.sender (world_from (apply (world_in kind o.front) (Opened o.last)) o.rest) o.traced.meets) (o.quiet (talks_up old is)) (subst A is t.allowed) (subst B is t.steps) (subst C is t.sender) (t.unsent up so))
+
+      still_greets : new.up ≡ true → NoneEarly new.sender → (t : IsTurned moment kind old new got found texts (world_in kind past) added) → (o : IsOpened kind issued old past) →
+          HasGreeted new.sender.numbered (traffic_from (apply (world_in kind o.front) (Opened o.last)) (o.rest ++ added)) new.sender
+      still_greets up early t o =
+          let made : WorldData = apply (world_in kind o.front) (Opened o.last) in
+          let here : world_in kind past ≡ world_from made o.rest = world_since kind past o.front o.last o.rest o.is in
+          let is : doing old ≡ UsingLink = talks (doing old) refl t up in
+          let F : Doing → Type 0 = λ d. can_find d found ≡ true in
+          let A : Doing → Type 0 = λ d. AreAllowed moment (turn_steps d old.up got found texts t.count) old.sender in
+          let B : Doing → Type 0 = λ d. AreAdded moment kind.prompt (turn_steps d old.up got found texts t.count) old.sender (world_in kind past) added in
+          let C : Doing → Type 0 = λ d. new.sender ≡ after_steps moment (turn_steps d old.up got found texts t.count) old.sender in
+          let W : WorldData → Type 0 = λ w. AreAdded moment kind.prompt (steps_over_link got found texts t.count) old.sender w added in
+          let G : Bool → Type 0 = λ b. HasGreeted b (traffic_from made (o.rest ++ added)) new.sender in
+          subst G (sym (turn_kind moment kind old new got found texts (world_in kind past) added t))
+          (talk_greets moment kind.prompt made o.rest got found texts t.count old.sender new.sender added (λ un. (t.asked.0 un) is) t.broken
+          (stays found old.up other (sym t.up ∙ up)) (subst F is t.can) (λ why. (t.ended why).1)
+          (fits_sound (start_of kind o.front old.sender.numbered o.rest) issued old.sender (world_from made o.rest) o.traced.meets) (talks_fresh old t.joined is) early o.traced.tallied
+          (o.greets (talks_up old is) (talks_fresh old t.joined is)) (subst A is t.allowed) (subst W here (subst B is t.steps)) (subst C is t.sender))
 
   linked_other : (found ≡ fact.Opened → ⊥) → IsTurned moment kind old new got found texts (world_in kind past) added →
       IsLinked kind issued old past → IsLinked kind (issued_in found texts issued) new (past ++ added)

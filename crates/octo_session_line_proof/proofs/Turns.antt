@@ -3,7 +3,6 @@ use Rattle.std.proofs.Common.{◌≡◌, ℕ, suc, Bool, true, false, List, [], 
 use Rattle.std.specs.Prelude.{Option, None, not, ◌&&◌}
 use Rattle.job_desk.specs.declared.link_fact.LinkFact.{LinkFact}
 use Rattle.job_desk.specs.declared.link_fact.LinkFact.TheVariants as fact
-use Rattle.marlin_reply.specs.declared.reply.Reply.{Reply}
 use Rattle.printer_model.specs.World.{WorldData, is_restart, apply, world_from}
 use Rattle.printer_model.specs.Executed.{opens}
 use Rattle.printer_model.specs.declared.event.WorldEvent.{WorldEvent}
@@ -12,7 +11,7 @@ use Rattle.printer_model.proofs.Laws.{world_from-append, world_from-linked}
 use Rattle.printer_model.proofs.Sessions.{opens-append}
 use Rattle.printer_model.proofs.Starts.{opens-free, runs-free}
 use Rattle.printer_link.specs.Link.{LinkKind, Recorded, IsDial, IsHangUp, world_in}
-use Rattle.send_window.specs.Data.{IsSound}
+use Rattle.send_window.specs.Data.{IsSound, NoneEarly}
 use Rattle.printer_link.specs.Suits.{Suits}
 use Rattle.octo_session.specs.Data.{SessionData, doing}
 use Rattle.octo_session.specs.Found.{Got, can_find}
@@ -25,20 +24,23 @@ use Rattle.octo_session_line_proof.specs.Pieces.{Each}
 use Rattle.std.specs.List.{list_any}
 use Rattle.std.proofs.lemmas.Bool.{or_left, or_right}
 use Rattle.std.proofs.lemmas.List.Folds.{list_any-append}
-use Rattle.octo_session_line_proof.proofs.Free.{widen_meets}
-use Rattle.octo_session_line_proof.specs.Wires.{Start, Meets}
-use Rattle.octo_session_line_proof.specs.Traces.{IsTallied, IsStartKnown, IsTraced}
-use Rattle.printer_model.specs.Exchanged.{replies_from}
-use Rattle.octo_session_line_proof.proofs.Tracing.{fits_append, replies_from-append}
+use Rattle.octo_session_line_proof.proofs.Fitting.{widen_fits}
+use Rattle.octo_session_line_proof.specs.Wires.{Start}
+use Rattle.octo_session_line_proof.specs.Stopped.{Fits}
+use Rattle.octo_session_line_proof.specs.Traces.{HasGreeted, IsTallied, IsStartKnown, IsTraced}
+use Rattle.octo_session.specs.Sends.{traffic_from}
+use Rattle.octo_session_line_proof.proofs.Tracing.{fits_append}
+use Rattle.octo_session_line_proof.proofs.Traffic.{traffic_from-append}
 use Rattle.octo_session_line_proof.specs.History.{IsMade}
 use Rattle.octo_session.specs.Tied.{HasIssued, IsTied}
 use Rattle.octo_session_line_proof.specs.Issuing.{issued_in}
 use Rattle.octo_session_line_proof.specs.Linked.{start_of, IsOpened, IsLinked, unopened}
 use Rattle.octo_session_line_proof.proofs.Speech.{steps_lead, turn_leads}
 use Rattle.octo_session_line_proof.proofs.Recorded.{IsKept, turned_by}
-use Rattle.octo_session_line_proof.proofs.Turned.{IsTurned, talks_up, dials_down, opens_dialling, world_since}
+use Rattle.octo_session_line_proof.proofs.Turned.{IsTurned, talks_up, talks_fresh, dials_down, opens_dialling, world_since}
 use Rattle.octo_session_line_proof.proofs.Turning.{opening, going_on}
 use Rattle.octo_session_line_proof.proofs.Tying.{tied_at, opened_tied}
+use Rattle.send_window.specs.Counting.{Traffic}
 
 -- only a turn that dials finds no port
 pub ports_dialling : (d : Doing) → can_find d fact.NoPort ≡ true → d ≡ Dialling
@@ -67,8 +69,10 @@ module _ (moment : ℕ) (kind : LinkKind) (old new : SessionData) (got : Got) (f
       let W : WorldData → Type 0 = λ w. AreAdded moment kind.prompt (turn_steps (doing old) old.up got found texts t.count) old.sender w added in
       let running : doing old ≡ UsingLink → old.sender.ended ≡ None = λ talks. t.joined.running (talks_up old talks) in
       let start : Start = record { log = (world_in kind o.front).log; numbered = old.sender.numbered; restarted = true } in
-      (turn_leads start moment kind.prompt issued old.sender (world_from base o.rest) (replies_from base o.rest) added (doing old) old.up got found texts t.count other running t.allowed (subst W here t.steps) (λ _. refl)
-      (widen_meets (start_of kind o.front old.sender.numbered o.rest) true issued old.sender (world_from base o.rest) (λ _. refl) o.traced.meets) o.traced.tallied).same_session
+      let fresh : doing old ≡ UsingLink → NoneEarly old.sender = talks_fresh old t.joined in
+      let greets : doing old ≡ UsingLink → HasGreeted old.sender.numbered (traffic_from base o.rest) old.sender = λ talks. o.greets (talks_up old talks) (fresh talks) in
+      (turn_leads start moment kind.prompt issued old.sender (world_from base o.rest) (traffic_from base o.rest) added (doing old) old.up got found texts t.count other running fresh greets t.allowed (subst W here t.steps) (λ _. refl)
+      (widen_fits (start_of kind o.front old.sender.numbered o.rest) true issued old.sender (world_from base o.rest) (λ _. refl) o.traced.meets) o.traced.tallied).same_session
 
   -- a turn over the link
   pub made_on : (issued : List (List ℕ)) (past added more : List WorldEvent) → (found ≡ fact.Opened → ⊥) →
@@ -172,20 +176,20 @@ hung_printed kind issued x past added more made hung =
     λ r. list_any-append is_restart o.rest more ∙ or_right (list_any is_restart o.rest) (list_any is_restart more) r in
     let base : WorldData = apply (world_in kind o.front) (Opened o.last) in
     let w : WorldData = world_from base o.rest in
-    let replies : List Reply = replies_from base o.rest in
+    let traffic : List Traffic = traffic_from base o.rest in
     let here : world_in kind (past ++ added) ≡ w = world_since kind (past ++ added) o.front o.last o.rest o.is in
     let H : WorldData → Type 0 = λ v. IsHangUp true v more in
     let steps : AreAdded 0 false (hangs_up true ∷ []) x.sender w more = (more, [], sym (append-nil more), (subst H here hung, λ _. tt), refl) in
-    let led = steps_lead start 0 false (hangs_up true ∷ []) issued x.sender w replies more (tt, tt) (tt, tt) steps newer
-    (widen_meets (start_of kind o.front x.sender.numbered o.rest) (list_any is_restart (o.rest ++ more)) issued x.sender w older o.traced.meets) o.traced.tallied in
+    let led = steps_lead start 0 false (hangs_up true ∷ []) issued x.sender w traffic more (tt, tt) (tt, tt) steps newer
+    (widen_fits (start_of kind o.front x.sender.numbered o.rest) (list_any is_restart (o.rest ++ more)) issued x.sender w older o.traced.meets) o.traced.tallied in
     let rest : List WorldEvent = o.rest ++ more in
-    let M : WorldData → Type 0 = λ v. Meets start issued x.sender v in
+    let M : WorldData → Type 0 = λ v. Fits start issued x.sender v in
     let E : WorldData → Type 0 = λ v. Each (IsStartKnown rest) v.down in
-    let R : List Reply → Type 0 = λ l. IsTallied l x.sender in
+    let R : List Traffic → Type 0 = λ l. IsTallied l x.sender in
     let traced : IsTraced start base issued x.sender rest = record {
       same_session = omega (arith, opens-append o.rest more, o.traced.same_session, led.same_session);
       meets = subst M (sym (world_from-append base o.rest more)) led.meets;
-      tallied = subst R (sym (replies_from-append base o.rest more)) led.tallied;
+      tallied = subst R (sym (traffic_from-append base o.rest more)) led.tallied;
       sends = fits_append start.numbered issued issued [] base o.rest more led.extends o.traced.sends led.sends;
       starts = subst E (sym (world_from-append base o.rest more)) (led.starts o.rest o.traced.starts);
     }

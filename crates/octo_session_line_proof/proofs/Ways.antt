@@ -13,7 +13,7 @@ greetings_push [] x = omega arith
 greetings_push (y ∷ way) x = omega (arith, greetings_push way x)
 
 count_le : (x : Answer) → greeting_count x ≤ weight_of x
-count_le (greeting_ok named) = omega arith
+count_le (greeting_ok number) = omega arith
 count_le (command_ok place named) = omega arith
 count_le (refusal number) = omega arith
 count_le (asking number) = omega arith
@@ -28,7 +28,7 @@ greetings_le (x ∷ way) = omega (arith, count_le x, greetings_le way)
 -- an answer that isn't the last part of a refusal doesn't change whether one is next
 pub closing_push : (way : List Answer) (x : Answer) → is_closing (x ∷ []) ≡ false → is_closing (way ++ x ∷ []) ≡ is_closing way
 closing_push [] x other = other
-closing_push (greeting_ok named ∷ way) x other = refl
+closing_push (greeting_ok number ∷ way) x other = refl
 closing_push (command_ok place named ∷ way) x other = refl
 closing_push (refusal number ∷ way) x other = refl
 closing_push (asking number ∷ way) x other = refl
@@ -39,7 +39,7 @@ closing_push (restart ∷ way) x other = refl
 pub early_push : (first : Bool) (way : List Answer) (x : Answer) → ((f : Bool) → IsEarlyWay f (x ∷ [])) → IsEarlyWay first way →
     IsEarlyWay first (way ++ x ∷ [])
 early_push first [] x so e = so first
-early_push first (greeting_ok named ∷ way) x so e = early_push false way x so e
+early_push first (greeting_ok number ∷ way) x so e = early_push false way x so e
 early_push first (command_ok place named ∷ way) x so e = absurd e
 early_push first (refusal number ∷ way) x so e = early_push false way x so e
 early_push first (asking number ∷ way) x so e = (e.0, early_push false way x so e.1)
@@ -50,7 +50,7 @@ early_push first (restart ∷ way) x so e = early_push false way x so e
 -- what may follow the first answer may also come first
 pub early_front : (way : List Answer) → IsEarlyWay false way → IsEarlyWay true way
 early_front [] e = tt
-early_front (greeting_ok named ∷ way) e = e
+early_front (greeting_ok number ∷ way) e = e
 early_front (command_ok place named ∷ way) e = absurd e
 early_front (refusal number ∷ way) e = e
 early_front (asking number ∷ way) e = (refl, e.1)
@@ -60,7 +60,7 @@ early_front (restart ∷ way) e = e
 
 pub early_unclosing : (way : List Answer) → IsEarlyWay false way → is_closing way ≡ false
 early_unclosing [] e = refl
-early_unclosing (greeting_ok named ∷ way) e = refl
+early_unclosing (greeting_ok number ∷ way) e = refl
 early_unclosing (command_ok place named ∷ way) e = refl
 early_unclosing (refusal number ∷ way) e = refl
 early_unclosing (asking number ∷ way) e = refl
@@ -71,7 +71,7 @@ early_unclosing (restart ∷ way) e = refl
 pub known_push : (d d' : Bool) (way : List Answer) (x : Answer) → (d ≡ false → IsRestartKnown d' (x ∷ [])) → IsRestartKnown d way →
     IsRestartKnown d' (way ++ x ∷ [])
 known_push d d' [] x so k = so k
-known_push d d' (greeting_ok named ∷ way) x so k = known_push d d' way x so k
+known_push d d' (greeting_ok number ∷ way) x so k = known_push d d' way x so k
 known_push d d' (command_ok place named ∷ way) x so k = known_push d d' way x so k
 known_push d d' (refusal number ∷ way) x so k = known_push d d' way x so k
 known_push d d' (asking number ∷ way) x so k = known_push d d' way x so k
@@ -82,7 +82,7 @@ known_push d d' (restart ∷ way) x so k = tt
 pub begun_push : (d d' : Bool) (way : List Answer) (x : Answer) → (d ≡ false → IsRestartKnown d' (x ∷ [])) → IsBegun d' (x ∷ []) → IsBegun d way →
     IsBegun d' (way ++ x ∷ [])
 begun_push d d' [] x so one b = one
-begun_push d d' (greeting_ok named ∷ way) x so one b = known_push d d' way x so b
+begun_push d d' (greeting_ok number ∷ way) x so one b = known_push d d' way x so b
 begun_push d d' (command_ok place named ∷ way) x so one b = begun_push d d' way x so one b
 begun_push d d' (refusal number ∷ way) x so one b = begun_push d d' way x so one b
 begun_push d d' (asking number ∷ way) x so one b = begun_push d d' way x so one b
@@ -94,7 +94,7 @@ begun_push d d' (restart ∷ way) x so one b = begun_push d d' way x so one b
 pub answers_push : (f d d' : Bool) (n a k k' : ℕ) (way : List Answer) (x : Answer) → k ≤ k' →
     ((g : Bool) (m : ℕ) → d ≡ false → m ≡ k → Answers g d' n m (x ∷ []) k') → Answers f d n a way k → Answers f d' n a (way ++ x ∷ []) k'
 answers_push f d d' n a k k' [] x le so h = so f a h.0 h.1
-answers_push f d d' n a k k' (greeting_ok named ∷ way) x le so h = absurd h
+answers_push f d d' n a k k' (greeting_ok number ∷ way) x le so h = absurd h
 answers_push f d d' n a k k' (command_ok place named ∷ way) x le so h = (h.0, answers_push false d d' n (suc a) k k' way x le so h.1)
 answers_push f d d' n a k k' (refusal number ∷ way) x le so h = (h.0, answers_push false d d' n a k k' way x le so h.1)
 answers_push f d d' n a k k' (asking number ∷ way) x le so h = (h.0, h.1, answers_push false d d' n a k k' way x le so h.2)
@@ -104,7 +104,7 @@ answers_push f d d' n a k k' (restart ∷ way) x le so h = omega (arith, h, le)
 
 pub answers_front : (d : Bool) (n a : ℕ) (way : List Answer) (k : ℕ) → Answers false d n a way k → Answers true d n a way k
 answers_front d n a [] k h = h
-answers_front d n a (greeting_ok named ∷ way) k h = h
+answers_front d n a (greeting_ok number ∷ way) k h = h
 answers_front d n a (command_ok place named ∷ way) k h = h
 answers_front d n a (refusal number ∷ way) k h = h
 answers_front d n a (asking number ∷ way) k h = (refl, h.1, h.2)
@@ -114,7 +114,7 @@ answers_front d n a (restart ∷ way) k h = h
 
 pub answers_unclosing : (d : Bool) (n a : ℕ) (way : List Answer) (k : ℕ) → Answers false d n a way k → is_closing way ≡ false
 answers_unclosing d n a [] k h = refl
-answers_unclosing d n a (greeting_ok named ∷ way) k h = refl
+answers_unclosing d n a (greeting_ok number ∷ way) k h = refl
 answers_unclosing d n a (command_ok place named ∷ way) k h = refl
 answers_unclosing d n a (refusal number ∷ way) k h = refl
 answers_unclosing d n a (asking number ∷ way) k h = refl
@@ -125,7 +125,7 @@ answers_unclosing d n a (restart ∷ way) k h = refl
 -- no more lines are acknowledged than have run
 pub answers_le : (f d : Bool) (n a : ℕ) (way : List Answer) (k : ℕ) → Answers f d n a way k → a ≤ k
 answers_le f d n a [] k h = omega (arith, h.1)
-answers_le f d n a (greeting_ok named ∷ way) k h = absurd h
+answers_le f d n a (greeting_ok number ∷ way) k h = absurd h
 answers_le f d n a (command_ok place named ∷ way) k h = let more = answers_le false d n (suc a) way k h.1 in omega (arith, more)
 answers_le f d n a (refusal number ∷ way) k h = answers_le false d n a way k h.1
 answers_le f d n a (asking number ∷ way) k h = answers_le false d n a way k h.2
@@ -139,7 +139,7 @@ asked_more n n' a number le is = record { place = is.place; is = is.is; above = 
 -- more lines are issued
 pub answers_more : (f d : Bool) (n n' a : ℕ) (way : List Answer) (k : ℕ) → n ≤ n' → Answers f d n a way k → Answers f d n' a way k
 answers_more f d n n' a [] k le h = h
-answers_more f d n n' a (greeting_ok named ∷ way) k le h = absurd h
+answers_more f d n n' a (greeting_ok number ∷ way) k le h = absurd h
 answers_more f d n n' a (command_ok place named ∷ way) k le h = (h.0, answers_more false d n n' (suc a) way k le h.1)
 answers_more f d n n' a (refusal number ∷ way) k le h = (asked_more n n' a number le h.0, answers_more false d n n' a way k le h.1)
 answers_more f d n n' a (asking number ∷ way) k le h = (h.0, asked_more n n' a number le h.1, answers_more false d n n' a way k le h.2)
@@ -150,7 +150,7 @@ answers_more f d n n' a (restart ∷ way) k le h = h
 -- after the hello's `ok` nothing is answered yet
 pub answers_begin : (d : Bool) (way : List Answer) → weights way ≡ 0 → IsEarlyWay false way → IsRestartKnown d way → Answers false d 0 0 way 0
 answers_begin d [] light e k = (k, refl)
-answers_begin d (greeting_ok named ∷ way) light e k = absurd (omega (arith, light))
+answers_begin d (greeting_ok number ∷ way) light e k = absurd (omega (arith, light))
 answers_begin d (command_ok place named ∷ way) light e k = absurd e
 answers_begin d (refusal number ∷ way) light e k = absurd (omega (arith, light))
 answers_begin d (asking number ∷ way) light e k = absurd (cc (e.0))
@@ -180,7 +180,7 @@ pub record IsFirst (line : List ℕ) (down : List (List ℕ)) (way : List Answer
   pub after : map heard_in down ≡ replies_on (rest_of answer rest)
 
 split : (x : Answer) (way : List Answer) → replies_on (x ∷ way) ≡ reply_to x ∷ replies_on (rest_of x way)
-split (greeting_ok named) way = refl
+split (greeting_ok number) way = refl
 split (command_ok place named) way = refl
 split (refusal number) way = refl
 split (asking number) way = refl

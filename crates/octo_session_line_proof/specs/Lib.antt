@@ -4,6 +4,7 @@ pub mod Issuing
 pub mod Linked
 pub mod Patience
 pub mod Pieces
+pub mod Stopped
 pub mod Tied
 pub mod Traces
 pub mod Wires

@@ -9,11 +9,12 @@ use Rattle.printer_model.specs.declared.event.WorldEvent.{WorldEvent}
 use Rattle.printer_model.specs.declared.event.WorldEvent.TheVariants.{Opened}
 use Rattle.printer_link.specs.Link.{LinkKind, world_in}
 use Rattle.send_window.specs.Counting.{IsQuiet}
-use Rattle.send_window.specs.Data.{IsSound}
+use Rattle.send_window.specs.Data.{IsSound, NoneEarly}
 use Rattle.octo_session.specs.Data.{SessionData}
-use Rattle.octo_session_line_proof.specs.Traces.{IsTraced}
+use Rattle.octo_session_line_proof.specs.Traces.{IsTraced, HasGreeted}
 use Rattle.octo_session_line_proof.specs.Wires.{Start}
 use Rattle.octo_session.specs.Causes.{IsCaused}
+use Rattle.octo_session.specs.Sends.{traffic_from}
 use Rattle.printer_link.specs.Suits.{Suits}
 use Rattle.octo_session.specs.Turn.{IsTurn, IsTurnByNote}
 use Rattle.octo_session.specs.declared.found.Turned.{Turned}
@@ -42,8 +43,10 @@ pub record IsOpened (kind : LinkKind) (issued : List (List ℕ)) (x : SessionDat
   pub traced : IsTraced (start_of kind front x.sender.numbered rest) (apply (world_in kind front) (Opened last)) issued x.sender rest
   -- the link is open exactly if the session is up
   pub open_as : (world_in kind past).linked ≡ x.up
-  -- while it is up, each limit that passed in silence brought a line
+  -- while it is up, each limit that passed in silence brought a line, and each hello that the sender returned was sent; without a line
+  -- before the `ok` of the hello, which the account would take for one
   pub quiet : x.up ≡ true → IsQuiet (sends_since 0 rest) x.sender
+  pub greets : x.up ≡ true → NoneEarly x.sender → HasGreeted x.sender.numbered (traffic_from (apply (world_in kind front) (Opened last)) rest) x.sender
   -- the sender ended with a cause, if it ended
   pub caused : IsCaused x.sender.numbered x.sender.ended (apply (world_in kind front) (Opened last)) rest
   pub suits : Suits x.sender.numbered kind.oks

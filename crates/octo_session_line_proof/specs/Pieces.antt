@@ -7,26 +7,27 @@ use Rattle.marlin_reply.specs.Kind.{kind_of}
 use Rattle.marlin_reply.specs.declared.reply.Reply.{Reply}
 use Rattle.marlin_reply.specs.declared.reply.Reply.TheVariants as reply
 use Rattle.printer_model.specs.Printer.{Entry, Logged}
+use Rattle.send_window.specs.Data.{most_hellos}
 use Rattle.octo_session.specs.Sends.{IsIssued}
 
--- a line of a session: the hello, or an issued line by its place, counted from 1, with its text
+-- a line of a session: a hello by its own number, or an issued line by its place, counted from 1, with its text
 pub data Piece : Type 0 where
-  greeting : Piece
+  greeting : ℕ → Piece
   command : ℕ → List ℕ → Piece
 
 -- the number that the printer counts a line by
 abbrev pub number_in : Piece → ℕ
-number_in greeting = hello_number
+number_in (greeting number) = hello_number
 number_in (command place text) = wire_number place
 
--- the number at a line's front; the hello's differs from the number that it sets
+-- the number at a line's front; a hello's differs from the number that it sets
 abbrev pub front_in : Piece → ℕ
-front_in greeting = 0
+front_in (greeting number) = number
 front_in (command place text) = wire_number place
 
 -- the text of a line
 abbrev pub text_in : Piece → List ℕ
-text_in greeting = hello_text
+text_in (greeting number) = hello_text
 text_in (command place text) = text
 
 -- the bytes of a line
@@ -51,10 +52,10 @@ abbrev pub bytes_on : Sent → List ℕ
 bytes_on (intact piece) = bytes_in piece
 bytes_on (corrupted bytes) = bytes
 
--- what is on the wire from the printer: an `ok` of the hello or of the line at a place, which names its line or not; a
+-- what is on the wire from the printer: an `ok` of a hello or of the line at a place, which names its line or not; a
 -- refusal that asks for a number, as three replies, the last two or the last one; another reply; a `start`
 pub data Answer : Type 0 where
-  greeting_ok : Bool → Answer
+  greeting_ok : Option ℕ → Answer
   command_ok : ℕ → Bool → Answer
   refusal : ℕ → Answer
   asking : ℕ → Answer
@@ -90,7 +91,7 @@ named_by false number = None
 
 -- the next reply of an answer
 abbrev pub reply_to : Answer → Heard
-reply_to (greeting_ok named) = ok_heard (named_by named 0)
+reply_to (greeting_ok number) = ok_heard number
 reply_to (command_ok place named) = ok_heard (named_by named (wire_number place))
 reply_to (refusal number) = talk_heard
 reply_to (asking number) = resend_heard number
@@ -100,7 +101,7 @@ reply_to restart = start_heard
 
 -- what is on the way after that reply was received
 abbrev pub rest_of : Answer → List Answer → List Answer
-rest_of (greeting_ok named) way = way
+rest_of (greeting_ok number) way = way
 rest_of (command_ok place named) way = way
 rest_of (refusal number) way = asking number ∷ way
 rest_of (asking number) way = closing ∷ way
@@ -110,7 +111,7 @@ rest_of restart way = way
 
 -- the replies of an answer
 abbrev pub replies_in : Answer → List Heard
-replies_in (greeting_ok named) = ok_heard (named_by named 0) ∷ []
+replies_in (greeting_ok number) = ok_heard number ∷ []
 replies_in (command_ok place named) = ok_heard (named_by named (wire_number place)) ∷ []
 replies_in (refusal number) = talk_heard ∷ resend_heard number ∷ ok_heard None ∷ []
 replies_in (asking number) = resend_heard number ∷ ok_heard None ∷ []
@@ -133,33 +134,44 @@ pub record IsFit (text : List ℕ) : Type 0 where
   pub sendable : IsSendable text
   pub bytes : All (λ b. b < 2 ^ 8) text
 
--- the line is the hello
+-- the line is a hello
 abbrev pub IsGreeting : Piece → Type 0
-IsGreeting greeting = Unit {0}
+IsGreeting (greeting number) = number < most_hellos
 IsGreeting (command place text) = ⊥
+
+-- the line is an issued one
+abbrev pub IsCommand : Piece → Type 0
+IsCommand (greeting number) = ⊥
+IsCommand (command place text) = Unit {0}
 
 -- bytes that fail their checksum
 abbrev pub IsFailing : List ℕ → Type 0
 IsFailing bytes = fails bytes ≡ true
 
--- before the hello's `ok` was read: a hello, or bytes that fail
+-- before a hello's `ok` was read: a hello, or bytes that fail
 abbrev pub IsSentEarly : Sent → Type 0
-IsSentEarly (intact greeting) = Unit {0}
+IsSentEarly (intact (greeting number)) = number < most_hellos
 IsSentEarly (intact (command place text)) = ⊥
 IsSentEarly (corrupted bytes) = IsFailing bytes
 
 -- afterwards: an issued line, or bytes that fail
 abbrev pub IsSentLate : List (List ℕ) → Sent → Type 0
-IsSentLate issued (intact greeting) = ⊥
+IsSentLate issued (intact (greeting number)) = ⊥
 IsSentLate issued (intact (command place text)) = IsIssued issued place text
 IsSentLate issued (corrupted bytes) = IsFailing bytes
 
 -- the line at a place of the session is this one
 abbrev pub IsLineAt : List (List ℕ) → ℕ → Piece → Type 0
-IsLineAt issued place greeting = ⊥
+IsLineAt issued place (greeting number) = ⊥
 IsLineAt issued place (command at text) = (at ≡ place) × IsIssued issued at text
 
 -- the lines are the issued ones from a place on, in order
 abbrev pub AreLinesFrom : List (List ℕ) → ℕ → List Piece → Type 0
 AreLinesFrom issued place [] = Unit {0}
 AreLinesFrom issued place (piece ∷ pieces) = IsLineAt issued place piece × AreLinesFrom issued (suc place) pieces
+
+-- hellos, and after them the issued lines from the first one on, in order
+abbrev pub AreAccepted : List (List ℕ) → List Piece → Type 0
+AreAccepted issued [] = Unit {0}
+AreAccepted issued (greeting number ∷ pieces) = (number < most_hellos) × AreAccepted issued pieces
+AreAccepted issued (command place text ∷ pieces) = AreLinesFrom issued 1 (command place text ∷ pieces)

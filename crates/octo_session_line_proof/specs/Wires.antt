@@ -6,13 +6,13 @@ use Rattle.send_window.specs.declared.session_end.SessionEnd.TheVariants.{NoAnsw
 use Rattle.printer_model.specs.Printer.{Logged}
 use Rattle.printer_model.specs.World.{WorldData}
 use Rattle.printer_model.specs.declared.oks.Oks.{Oks}
-use Rattle.send_window.specs.Data.{SenderData, IsSound}
+use Rattle.send_window.specs.Data.{SenderData, IsSound, NoneEarly}
 use Rattle.send_window.specs.Session.{HoldsIssued}
-use Rattle.octo_session_line_proof.specs.Pieces.{Piece, greeting, Sent, Answer, greeting_ok, command_ok, refusal, asking, closing, chat, restart, Heard, ok_heard, resend_heard, start_heard, talk_heard, heard_in, replies_on, entry_in, logged_in, bytes_on, Each, IsFit, IsGreeting, IsSentEarly, IsSentLate, AreLinesFrom}
+use Rattle.octo_session_line_proof.specs.Pieces.{Piece, greeting, command, Sent, intact, corrupted, Answer, greeting_ok, command_ok, refusal, asking, closing, chat, restart, Heard, ok_heard, resend_heard, start_heard, talk_heard, heard_in, replies_on, entry_in, logged_in, bytes_on, Each, IsFit, IsGreeting, IsCommand, IsSentEarly, IsSentLate, AreAccepted}
 
 -- the session as the printer and the wires have it
 pub record Wires : Type 0 where
-  -- the hello has run; the printer restarted after that, which drops its queue
+  -- a hello has run; the printer restarted after that, which drops its queue, and has taken no hello since
   pub ran : Bool
   pub dropped : Bool
   -- what waits in the printer, and what it ran since the session was opened
@@ -39,21 +39,26 @@ abbrev pub last_at : Bool → ℕ → ℕ
 last_at false count = wire_number count
 last_at true count = 0
 
--- the hello hasn't run, and no line was accepted
+-- how many lines there are, without hellos
+abbrev pub lines_run : List Piece → ℕ
+lines_run [] = 0
+lines_run (greeting number ∷ pieces) = lines_run pieces
+lines_run (command place text ∷ pieces) = suc (lines_run pieces)
+
+-- no hello has run, and no line was accepted
 pub record IsBefore (ran dropped : Bool) (queue log : List Piece) : Type 0 where
   pub unran : ran ≡ false
   pub kept : dropped ≡ false
   pub none_run : log ≡ []
   pub greetings : Each IsGreeting queue
-  pub few : length queue ≤ 1
 
--- the hello has run, and the lines accepted after it are the first of the issued ones, those in the log first
+-- a hello has run, and what was accepted are hellos and then the first of the issued lines, those in the log first; while a hello waits no
+-- line was accepted
 pub record IsAfter (issued : List (List ℕ)) (ran dropped : Bool) (last : ℕ) (queue log : List Piece) : Type 0 where
-  pub lines : List Piece
   pub has_run : ran ≡ true
-  pub logged : log ≡ greeting ∷ lines
-  pub accepted : AreLinesFrom issued 1 (lines ++ queue)
-  pub last_is : last ≡ last_at dropped (length (lines ++ queue))
+  pub accepted : AreAccepted issued (log ++ queue)
+  pub waiting : Each IsCommand queue ⊎ (lines_run (log ++ queue) ≡ 0)
+  pub last_is : last ≡ last_at dropped (lines_run (log ++ queue))
   pub emptied : dropped ≡ true → queue ≡ []
 
 -- what the printer accepted and ran
@@ -61,14 +66,9 @@ pub data Printed (issued : List (List ℕ)) (ran dropped : Bool) (last : ℕ) (q
   before : IsBefore ran dropped queue log → Printed issued ran dropped last queue log
   after : IsAfter issued ran dropped last queue log → Printed issued ran dropped last queue log
 
--- how many lines ran, without the hello
-abbrev pub lines_run : List Piece → ℕ
-lines_run [] = 0
-lines_run (piece ∷ log) = length log
-
 -- what an answer on the way weighs against sending the hello again: an `ok` of the hello, or a Resend, unread
 abbrev pub weight_of : Answer → ℕ
-weight_of (greeting_ok named) = 1
+weight_of (greeting_ok number) = 1
 weight_of (command_ok place named) = 0
 weight_of (refusal number) = 1
 weight_of (asking number) = 1
@@ -83,7 +83,7 @@ weights (answer ∷ way) = weight_of answer + weights way
 
 -- how many `ok`s of the hello are on the way
 abbrev pub greeting_count : Answer → ℕ
-greeting_count (greeting_ok named) = 1
+greeting_count (greeting_ok number) = 1
 greeting_count (command_ok place named) = 0
 greeting_count (refusal number) = 0
 greeting_count (asking number) = 0
@@ -104,7 +104,7 @@ is_closing _ = false
 -- before the hello's `ok` was read no line has an `ok`; only the first answer may be read in part
 abbrev pub IsEarlyWay : Bool → List Answer → Type 0
 IsEarlyWay first [] = Unit {0}
-IsEarlyWay first (greeting_ok named ∷ way) = IsEarlyWay false way
+IsEarlyWay first (greeting_ok number ∷ way) = IsEarlyWay false way
 IsEarlyWay first (command_ok place named ∷ way) = ⊥
 IsEarlyWay first (refusal number ∷ way) = IsEarlyWay false way
 IsEarlyWay first (asking number ∷ way) = (first ≡ true) × IsEarlyWay false way
@@ -121,7 +121,7 @@ IsRestartKnown dropped (_ ∷ way) = IsRestartKnown dropped way
 -- the same of what follows the hello's `ok`
 abbrev pub IsBegun : Bool → List Answer → Type 0
 IsBegun dropped [] = Unit {0}
-IsBegun dropped (greeting_ok named ∷ way) = IsRestartKnown dropped way
+IsBegun dropped (greeting_ok number ∷ way) = IsRestartKnown dropped way
 IsBegun dropped (_ ∷ way) = IsBegun dropped way
 
 -- a Resend asks for a line above the acknowledged ones, at most for the next one to issue
@@ -135,7 +135,7 @@ pub record IsAsked (all acked number : ℕ) : Type 0 where
 -- for each line that ran above acked, in order, and refusals, of which only the first answer may be read in part
 abbrev pub Answers : Bool → Bool → ℕ → ℕ → List Answer → ℕ → Type 0
 Answers first dropped all acked [] run = (dropped ≡ false) × (acked ≡ run)
-Answers first dropped all acked (greeting_ok named ∷ way) run = ⊥
+Answers first dropped all acked (greeting_ok number ∷ way) run = ⊥
 Answers first dropped all acked (command_ok place named ∷ way) run = (place ≡ suc acked) × Answers false dropped all (suc acked) way run
 Answers first dropped all acked (refusal number ∷ way) run = IsAsked all acked number × Answers false dropped all acked way run
 Answers first dropped all acked (asking number ∷ way) run = (first ≡ true) × IsAsked all acked number × Answers false dropped all acked way run
@@ -158,7 +158,7 @@ pub record IsEarly (s : SenderData) (ran dropped : Bool) (queue : List Piece) (u
 pub data Phase (issued : List (List ℕ)) (s : SenderData) (linked : Bool) (a : Wires) (way : List Answer) : Type 0 where
   shut : linked ≡ false → a.up ≡ [] → way ≡ [] → Phase issued s linked a way
   early : linked ≡ true → s.ready ≡ false → IsEarly s a.ran a.dropped a.queue a.up way → Phase issued s linked a way
-  late : linked ≡ true → s.ready ≡ true → a.ran ≡ true → Each (IsSentLate issued) a.up → Phase issued s linked a way
+  late : linked ≡ true → s.ready ≡ true → a.ran ≡ true → Each (IsSentLate issued) a.up → Each IsCommand a.queue → Phase issued s linked a way
 
 -- the ends that a session may have, by whether the printer may ask for an acknowledged line
 abbrev pub IsFair : Bool → Option SessionEnd → Type 0
@@ -199,28 +199,45 @@ named_on (resend_heard number ∷ way) = named_on way
 named_on (start_heard ∷ way) = named_on way
 named_on (talk_heard ∷ way) = named_on way
 
--- an `ok` that names a line names the hello
-abbrev pub IsEarlyHeard : Heard → Type 0
-IsEarlyHeard (ok_heard None) = Unit {0}
-IsEarlyHeard (ok_heard (Some number)) = number ≡ 0
-IsEarlyHeard (resend_heard number) = Unit {0}
-IsEarlyHeard start_heard = Unit {0}
-IsEarlyHeard talk_heard = Unit {0}
+-- a hello on the wire to the printer is the last one sent but for as many as are behind it
+abbrev pub AreUpAhead : ℕ → List Sent → Type 0
+AreUpAhead hellos [] = Unit {0}
+AreUpAhead hellos (intact (greeting number) ∷ up) = (number + length up < hellos) × AreUpAhead hellos up
+AreUpAhead hellos (intact (command place text) ∷ up) = AreUpAhead hellos up
+AreUpAhead hellos (corrupted bytes ∷ up) = AreUpAhead hellos up
 
--- before the hello's `ok` was read, if `ok`s count by their numbers: each reply on the way may be lost
+-- so is one that waits, with this number of lines behind the queue
+abbrev pub AreQueueAhead : ℕ → ℕ → List Piece → Type 0
+AreQueueAhead hellos behind [] = Unit {0}
+AreQueueAhead hellos behind (greeting number ∷ queue) = (number + (length queue + behind) < hellos) × AreQueueAhead hellos behind queue
+AreQueueAhead hellos behind (command place text ∷ queue) = AreQueueAhead hellos behind queue
+
+-- so is one that an `ok` names, with this number of lines behind the replies; what is behind it are those, other such `ok`s, and
+-- a Resend for each hello that came corrupted
+abbrev pub AreNamesAhead : ℕ → ℕ → List Heard → Type 0
+AreNamesAhead hellos behind [] = Unit {0}
+AreNamesAhead hellos behind (ok_heard None ∷ way) = AreNamesAhead hellos behind way
+AreNamesAhead hellos behind (ok_heard (Some number) ∷ way) =
+    (number + (named_on way + resends way + behind) < hellos) × AreNamesAhead hellos behind way
+AreNamesAhead hellos behind (resend_heard number ∷ way) = AreNamesAhead hellos behind way
+AreNamesAhead hellos behind (start_heard ∷ way) = AreNamesAhead hellos behind way
+AreNamesAhead hellos behind (talk_heard ∷ way) = AreNamesAhead hellos behind way
+
+-- before the `ok` of the last hello was read, if `ok`s count by their numbers: each reply on the way may be lost
 pub record IsNamedEarly (s : SenderData) (ran : Bool) (queue : List Piece) (up : List Sent) (way : List Heard) : Type 0 where
   pub ups : Each IsSentEarly up
-  pub one : length up + length queue + resends way + named_on way ≤ 1
-  pub due : s.hello_due ≡ true → length up + length queue + resends way + named_on way ≡ 0
+  pub waits : Each IsGreeting queue
+  pub up_ahead : AreUpAhead s.hellos up
+  pub queue_ahead : AreQueueAhead s.hellos (length up) queue
+  pub names_ahead : AreNamesAhead s.hellos (length up + length queue) way
   pub unrun_ok : ran ≡ false → named_on way ≡ 0
-  pub run_ok : ran ≡ true → (length up + length queue + resends way ≡ 0) × (s.hello_due ≡ false)
-  pub way_so : Each IsEarlyHeard way
+  pub fair : IsFair false s.ended
 
 -- where such a session is
 pub data NamedPhase (issued : List (List ℕ)) (s : SenderData) (linked : Bool) (a : Wires) (way : List Heard) : Type 0 where
   named_shut : linked ≡ false → a.up ≡ [] → way ≡ [] → NamedPhase issued s linked a way
   named_early : linked ≡ true → s.ready ≡ false → IsNamedEarly s a.ran a.queue a.up way → NamedPhase issued s linked a way
-  named_late : linked ≡ true → s.ready ≡ true → a.ran ≡ true → Each (IsSentLate issued) a.up → NamedPhase issued s linked a way
+  named_late : linked ≡ true → s.ready ≡ true → a.ran ≡ true → Each (IsSentLate issued) a.up → Each IsCommand a.queue → NamedPhase issued s linked a way
 
 -- the replies on the way, if `all` lines were issued, `acked` acknowledged and `run` have run: an `ok` names a line that ran,
 -- and a Resend asks for a line that didn't, or for the first number if the printer restarted
@@ -266,10 +283,11 @@ pub data Reads (issued : List (List ℕ)) (s : SenderData) (linked : Bool) (oks 
   counting : Counted issued s linked oks a down → Reads issued s linked oks a down
   naming : Named issued s linked oks a down → Reads issued s linked oks a down
 
--- a sender's session began so, and the printer has restarted only if it may
+-- a sender's session began so, the printer has restarted only if it may, and no line was issued before the `ok` of the hello
 pub record Began (start : Start) (s : SenderData) (dropped : Bool) : Type 0 where
   pub kind : s.numbered ≡ start.numbered
   pub known : dropped ≡ true → start.restarted ≡ true
+  pub none_early : NoneEarly s
 
 -- a sender that issued these lines and a world fit together, in a session that began so
 pub record Meets (start : Start) (issued : List (List ℕ)) (s : SenderData) (w : WorldData) : Type 0 where
