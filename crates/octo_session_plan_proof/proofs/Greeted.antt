@@ -24,7 +24,7 @@ use Rattle.byte_text.proofs.ListLaws.{never_empty}
 use Rattle.std.proofs.lemmas.Bool.{and_right}
 
 hello_idle : (moment : ℕ) (s : SenderData) (w : WorldData) → IsGreeting [] true s w → tick_step moment s ≡ s
-hello_idle moment s w i = tick_idle moment s i.running (ap (λ (d : Option ℕ). is_past d moment) (i.sound.hello_unsent i.due_is))
+hello_idle moment s w i = tick_idle moment s i.running (ap (λ (d : Option ℕ). is_past d moment) (i.sound.hello_unsent i.counts i.due_is))
 
 -- before the hello is sent nothing is received
 pub hello_unheard : (bytes : List ℕ) (s : SenderData) (w : WorldData) (first : List WorldEvent) → IsGreeting [] true s w → IsHeard bytes w first →
@@ -40,11 +40,11 @@ pub hello_unready : (moment : ℕ) (s : SenderData) (w : WorldData) → IsGreeti
 hello_unready moment s w i = ap (λ (x : SenderData). x.ready) (hello_idle moment s w i) ∙ i.unready
 
 -- the turn that sends the hello
-pub hello_talk : (moment : ℕ) (texts : List (List ℕ)) (count : ℕ) (s : SenderData) (w : WorldData) (added : List WorldEvent) → IsGreeting [] true s w →
+pub hello_talk : (moment : ℕ) (texts : List (List ℕ)) (count : ℕ) (s : SenderData) (w : WorldData) (added : List WorldEvent) → texts ≡ [] → IsGreeting [] true s w →
     AreAllowed moment (steps_over_link nothing fact.Quiet texts count) s → AreAdded moment true (steps_over_link nothing fact.Quiet texts count) s w added →
     next_of (after_steps moment (steps_over_link nothing fact.Quiet texts count) s) ≡ None →
     IsGreeting (hello_frame ∷ []) false (after_steps moment (steps_over_link nothing fact.Quiet texts count) s) (world_from w added)
-hello_talk moment texts count s w added i can is spent =
+hello_talk moment texts count s w added silent i can is spent =
     let still : is.0 ≡ [] = is.3.1 refl ∙ none_yet true s w i in
     let next = is.4 in
     let none : next.0 ≡ [] = next.3.0 in
@@ -58,7 +58,7 @@ hello_talk moment texts count s w added i can is spent =
     ap (λ (es : List WorldEvent). world_from (world_from w es) next.0) still ∙ ap (world_from w) none
     in
     let A : WorldData → Type 0 = λ v. AreAdded moment true (issues_then_sends true texts count) u v next.1 in
-    let said = speaks moment texts count u w next.1 start can.1.1 (subst A place next.4) spent in
+    let said = speaks moment texts count u w next.1 silent start can.1.1 (subst A place next.4) spent in
     let V : List WorldEvent → Type 0 = λ es. IsGreeting (hello_frame ∷ []) false (after_steps moment (issues_then_sends true texts count) u) (world_from w es) in
     subst V (sym all) said
 

@@ -15,7 +15,7 @@ use Rattle.printer_model.proofs.Laws.{world_from-IsSameKind, world_from-push, ha
 use Rattle.printer_link.specs.Link.{IsDial, IsHeard, IsSend, arrivals, due_run, due_recv, printer_events, recv_events}
 use Rattle.send_window.specs.Data.{SenderData, IsSound, sender_after_dial}
 use Rattle.send_window.specs.Hearing.{made_ready, hear_step}
-use Rattle.send_window.specs.Sending.{Outgoing, hello, next_at, next_of, after_giving as given_out, with_deadline, frame_step, last_room_of}
+use Rattle.send_window.specs.Sending.{Outgoing, hello, next_at, next_of, after_giving as given_out, with_deadline, frame_step}
 use Rattle.send_window.specs.declared.session_end.SessionEnd.{SessionEnd}
 use Rattle.send_window.proofs.Soundness.{begun_sound, hears_sound, gives_sound}
 use Rattle.octo_session.specs.Steps.{after_steps, AreAllowed, AreAdded, IsGiven, IsGivenAlone, issues_then_sends}
@@ -34,12 +34,14 @@ none_yet due s w i =
     let printer : printer_events true w ≡ [] = ap (λ (es : List WorldEvent). es ++ due_run true (world_from w es)) still ∙ idle in
     ap (λ (es : List WorldEvent). es ++ due_recv (world_from w es)) printer ∙ ap (λ (d : List (List ℕ)). if is_empty d then [] else Recv ∷ []) i.down
 
--- before it is acknowledged there's no room for a line
-no_room : (s : SenderData) → s.ended ≡ None → s.ready ≡ false → 0 < last_room_of s → ⊥
-no_room s running unready room = grind (arith, common_steps)
+-- before it is acknowledged a sender that holds no line has issued none
+pub none_issued : (s : SenderData) → IsSound s → s.ready ≡ false → s.held ≡ [] → s.issued ≡ 0
+none_issued s sound unready none = omega (arith, sound.counted, sound.none_acked unready, ap length none)
 
-hello_next : (s : SenderData) → s.ended ≡ None → s.hello_due ≡ true → next_of s ≡ Some hello
-hello_next s running due = ap (λ (e : Option SessionEnd). next_at e s.hello_due s) running ∙ ap (λ (b : Bool). next_at None b s) due
+hello_next : (s : SenderData) → s.ended ≡ None → s.hello_due ≡ true → s.hellos ≡ 0 → next_of s ≡ Some (hello 0)
+hello_next s running due first =
+    let given : ℕ → Option Outgoing = λ number. Some (hello number) in
+    ap (λ (e : Option SessionEnd). next_at e s.hello_due s) running ∙ ap (λ (b : Bool). next_at None b s) due ∙ ap given first
 
 no_next : (s : SenderData) → s.ended ≡ None → s.hello_due ≡ false → s.issued < s.cursor → next_of s ≡ None
 no_next s running undue past = grind (arith, nat_tests, common_steps)
@@ -48,13 +50,13 @@ no_next s running undue past = grind (arith, nat_tests, common_steps)
 hello_sent : (moment : ℕ) (s : SenderData) (w : WorldData) (added : List WorldEvent) → IsGreeting [] true s w → IsGiven (next_of s) w added →
     IsGivenAlone (next_of s) added → IsGreeting (hello_frame ∷ []) false (frame_step moment s) (world_from w added)
 hello_sent moment s w added i after_giving prompt =
-    let next : next_of s ≡ Some hello = hello_next s i.running i.due_is in
+    let next : next_of s ≡ Some (hello 0) = hello_next s i.running i.due_is (i.sound.one_number i.counts) in
     let O : Option Outgoing → Type 0 = λ o. IsGiven o w added in
     let P : Option Outgoing → Type 0 = λ o. IsGivenAlone o added in
     let sends : IsSend hello_frame w added = subst O next after_giving in
     let only = subst P next prompt in
     let went : HasSent hello_frame w (world_from w added) = sent_promptly hello_frame w added sends only.0 only.1 only.2 in
-    let after : frame_step moment s ≡ with_deadline moment (record s { hello_due = false }) = ap (λ (o : Option Outgoing). given_out o moment s) next in
+    let after : frame_step moment s ≡ with_deadline moment (record s { hello_due = false; hellos = if s.numbered then s.hellos + 1 else s.hellos }) = ap (λ (o : Option Outgoing). given_out o moment s) next in
     let Q : SenderData → Type 0 = λ t. IsSound t in
     let S : SenderData → Type 0 = λ t. IsGreeting (hello_frame ∷ []) false t (world_from w added) in
     let N : PrinterData → Type 0 = λ p. (p.queue ≡ []) × (1 ≤ p.slots) × (p.slots ≤ 16) in
@@ -76,21 +78,21 @@ hello_sent moment s w added i after_giving prompt =
       few = printer.2;
     })
 
--- what the turn that sends the hello says
-pub speaks : (moment : ℕ) (texts : List (List ℕ)) (count : ℕ) (s : SenderData) (w : WorldData) (added : List WorldEvent) → IsGreeting [] true s w →
+-- what the turn that sends the hello says, and issues nothing
+pub speaks : (moment : ℕ) (texts : List (List ℕ)) (count : ℕ) (s : SenderData) (w : WorldData) (added : List WorldEvent) → texts ≡ [] → IsGreeting [] true s w →
     AreAllowed moment (issues_then_sends true texts count) s → AreAdded moment true (issues_then_sends true texts count) s w added →
     next_of (after_steps moment (issues_then_sends true texts count) s) ≡ None →
     IsGreeting (hello_frame ∷ []) false (after_steps moment (issues_then_sends true texts count) s) (world_from w added)
-speaks moment (text ∷ texts) count s w added i can is spent = absurd (no_room s i.running i.unready can.0.0)
-speaks moment [] zero s w added i can is spent = (let no_line : Some hello ≡ None = sym (hello_next s i.running i.due_is) ∙ spent in absurd (cc))
-speaks moment [] (suc zero) s w added i can is spent =
+speaks moment (text ∷ texts) count s w added silent i can is spent = absurd (cc silent)
+speaks moment [] zero s w added silent i can is spent = (let no_line : Some (hello 0) ≡ None = sym (hello_next s i.running i.due_is (i.sound.one_number i.counts)) ∙ spent in absurd (cc))
+speaks moment [] (suc zero) s w added silent i can is spent =
     let V : WorldData → Type 0 = λ v. IsGreeting (hello_frame ∷ []) false (frame_step moment s) v in
     let all : world_from w added ≡ world_from w is.0 = ap (world_from w) (is.2 ∙ ap (λ (es : List WorldEvent). is.0 ++ es) is.4 ∙ append-nil is.0) in
     subst V (sym all) (hello_sent moment s w is.0 i is.3.0 (is.3.1 refl))
-speaks moment [] (suc (suc count)) s w added i can is spent =
+speaks moment [] (suc (suc count)) s w added silent i can is spent =
     let sent = hello_sent moment s w is.0 i is.3.0 (is.3.1 refl) in
     let t : SenderData = frame_step moment s in
-    let none : next_of t ≡ None = no_next t sent.running sent.due_is (omega (arith, sent.cursor_is, sent.sound.hello_first sent.unready)) in
+    let none : next_of t ≡ None = no_next t sent.running sent.due_is (omega (arith, sent.cursor_is, none_issued t sent.sound sent.unready sent.none_held)) in
     let clash : true ≡ false = sym can.1.0 ∙ ap is_some none in
     absurd (cc)
 
@@ -106,18 +108,18 @@ pub record HasGreeted (w : WorldData) : Type 0 where
 
 pub greets : (s : SenderData) (w : WorldData) → IsGreeting (hello_frame ∷ []) false s w → HasGreeted w
 greets s w i =
-    let entry : Entry = entry_in greeting in
+    let entry : Entry = entry_in (greeting 0) in
     let empty : length w.printer.queue ≡ 0 = ap length i.queue in
     let room : is_full w.printer ≡ false = room_for w.printer (omega (arith, empty, i.some)) in
     let a : WorldData = apply w Arrive in
-    let came : a ≡ after_arrival w [] (take_judged w.printer (Ok entry)) = arrive_accepts w (bytes_in greeting) [] entry i.up_is room (greeting_accepted w.printer.last) in
+    let came : a ≡ after_arrival w [] (take_judged w.printer (Ok entry)) = arrive_accepts w (bytes_in (greeting 0)) [] entry i.up_is room (greeting_accepted w.printer.last 0 (omega arith)) in
     let queue : a.printer.queue ≡ entry ∷ [] = ap (λ (v : WorldData). v.printer.queue) came ∙ ap (λ (q : List Entry). q ++ entry ∷ []) i.queue in
     let last : a.printer.last ≡ hello_number = ap (λ (v : WorldData). v.printer.last) came in
     let linked : a.linked ≡ true = ap (λ (v : WorldData). v.linked) came ∙ i.linked in
     let down : a.down ≡ [] = ap (λ (v : WorldData). v.down) came ∙ append-nil w.down ∙ i.down in
     let up : a.up ≡ [] = ap (λ (v : WorldData). v.up) came in
     let free : ℕ = a.printer.slots - length a.printer.queue in
-    let reply : List ℕ = run_reply a.printer.oks.numbered (Some 0) (text_in greeting) free in
+    let reply : List ℕ = run_reply a.printer.oks.numbered (Some 0) (text_in (greeting 0)) free in
     let b : WorldData = apply a Run in
     let ran : b ≡ after_run a (run_queue a.printer (entry ∷ [])) = run_queue_of a entry [] queue in
     let said : b.down ≡ reply ∷ [] =
@@ -126,7 +128,7 @@ greets s w i =
     let open_still : b.linked ≡ true = ap (λ (v : WorldData). v.linked) ran ∙ linked in
     let can : can_happen b Recv ≡ true = ap (λ (l : Bool). l && not (is_empty b.down)) open_still ∙ ap (λ (d : List (List ℕ)). not (is_empty d)) said in
     let got : apply b Recv ≡ record b { down = drop 1 b.down } = happens b Recv can in
-    let kept : last_after a.printer.last entry ≡ hello_number = last_after-greeting a.printer.last in
+    let kept : last_after a.printer.last entry ≡ hello_number = last_after-greeting a.printer.last 0 in
     let P : WorldData → Type 0 = λ v. (1 ≤ v.printer.slots) × (v.printer.slots ≤ 16) in
     let slots : P a = subst P (sym came) (i.some, i.few) in
     let slots' : P b = subst P (sym ran) slots in
@@ -154,7 +156,7 @@ greets s w i =
       is = is;
       free = refl;
       front = said;
-      heard = run_heard a.printer.oks.numbered 0 free (text_in greeting) (omega arith) (omega (arith, slots.1));
+      heard = run_heard a.printer.oks.numbered 0 free (text_in (greeting 0)) (omega arith) (omega (arith, slots.1));
       in_step = subst I (sym is) (record {
         linked = ap (λ (v : WorldData). v.linked) got ∙ open_still;
         queue = ap (λ (v : WorldData). v.printer.queue) got ∙ ap (λ (v : WorldData). v.printer.queue) ran;
@@ -185,8 +187,7 @@ greeting_heard moment bytes s w added i is prompt =
     let answer : hear_step (kind_of bytes) moment s ≡ made_ready s =
     hear_as bytes (ok_heard (named_by heard.named 0)) moment s i.running heard.heard ∙ ok_by false false (named_by heard.named 0) moment s i.counts i.awaiting i.unready
     in
-    let none : s.issued ≡ 0 = i.sound.hello_first i.unready in
-    let zero_acked : s.acked ≡ 0 = omega (arith, i.sound.counted, none) in
+    let zero_acked : s.acked ≡ 0 = i.sound.none_acked i.unready in
     let S : SenderData → Type 0 = λ t. IsSound t in
     let E : List (List ℕ) → Type 0 = λ l. Each IsFit l in
     let W : List WorldEvent → Type 0 = λ es. IsInStep 1 [] [] (world_from w es) in

@@ -3,7 +3,9 @@ use Rattle.std.proofs.Common.{◌≡◌, ℕ, ◌-◌, ◌<◌, ◌≤◌, Bool,
 use Rattle.std.specs.Prelude.{Option, None, Some}
 use Rattle.job_desk.specs.Data.{Data, Line, moment_after}
 use Rattle.job_desk.specs.Table.{Answer, is_closable_at, printing, start_at}
-use Rattle.job_desk.specs.Note.{Noted, note_step}
+use Rattle.job_desk.specs.Note.{Noted, note_step, with_acked}
+use Rattle.job_desk.specs.Pull.{draw_at}
+use Rattle.job_desk.proofs.Connecting.{none_ends}
 use Rattle.job_desk.specs.declared.link_fact.LinkFact.{LinkFact}
 use Rattle.job_desk.specs.declared.link_fact.LinkFact.TheVariants as fact
 use Rattle.job_desk.specs.declared.state.State.TheVariants.{Connecting, Operational}
@@ -17,7 +19,7 @@ use Rattle.send_window.specs.Hearing.{made_ready}
 use Rattle.send_window.specs.Sending.{next_of}
 use Rattle.send_window.specs.declared.session_end.SessionEnd.{SessionEnd}
 use Rattle.octo_session.specs.Data.{SessionData, doing}
-use Rattle.octo_session.specs.DeskTurn.{IsNoted}
+use Rattle.octo_session.specs.DeskTurn.{Pulls, IsNoted}
 use Rattle.octo_session.specs.Found.{Got, unasked, lost, nothing, whole, can_find, end_by, may_have_issued, ready_after, up_after}
 use Rattle.octo_session.specs.Steps.{after_steps, dial_steps, steps_over_link}
 use Rattle.octo_session.specs.Turn.{fact_of, texts_in}
@@ -25,7 +27,7 @@ use Rattle.octo_session.specs.declared.found.Doing.TheVariants.{Dialling, UsingL
 use Rattle.octo_session.specs.declared.found.Turned.{Turned}
 use Rattle.octo_session_line_proof.specs.Issuing.{issued_in}
 use Rattle.octo_session_plan_proof.specs.Prompt.{IsReadySession, IsGreeting}
-use Rattle.octo_session_plan_proof.proofs.Greeting.{dial_greeting}
+use Rattle.octo_session_plan_proof.proofs.Greeting.{none_issued, dial_greeting}
 use Rattle.octo_session_plan_proof.proofs.Greeted.{hello_unheard, hello_goes_on, hello_unready, hello_talk, greeting_answered, ok_goes_on, ok_readies, ok_talk}
 use Rattle.octo_session_plan_proof.specs.Plan.{PrintData}
 use Rattle.octo_session_plan_proof.specs.Underway.{standing}
@@ -53,6 +55,17 @@ ready_alone moment acked lines old ending new none n =
     let L : List Line → Type 0 = λ l. IsNoted moment acked fact.Ready l old ending new in
     let m : IsNoted moment acked fact.Ready [] old ending new = subst L none n in
     ap (λ (q : Noted). q.1) m.is ∙ m.pulls
+
+-- a desk that connects issues nothing
+none_pulled : (moment : ℕ) (lines : List Line) (d e : Data) → d.state ≡ Connecting → Pulls moment lines d e → lines ≡ []
+none_pulled moment [] d e connects pulls = refl
+none_pulled moment (line ∷ lines) d e connects pulls =
+    (let no : ◌≡◌ {A = Option Line} None (Some line) = sym (ap (λ s. (draw_at s moment d).0) connects) ∙ pulls.0 in absurd (cc))
+
+connecting_silent : (moment acked : ℕ) (lines : List Line) (old : Data) (ending : Option Ending) (new : Data) → old.state ≡ Connecting →
+    IsNoted moment acked fact.Quiet lines old ending new → lines ≡ []
+connecting_silent moment acked lines old ending new connects n =
+    none_pulled moment lines (note_step acked fact.Quiet moment old).1 n.pulled (none_ends (with_acked acked moment old) connects) n.pulls
 
 module _ (moment at poll_ms : ℕ) (kind : LinkKind) (old_past new_past : Option (List WorldEvent)) (old_calls new_calls : Option ℕ) (old mid : SessionData) (turned : Turned) (h : HasTurned moment at poll_ms kind old_past new_past old_calls new_calls old mid turned) (p : PrintData) (left : ℕ) where
   fact_is : fact_of turned.note ≡ h.turn.found
@@ -183,7 +196,8 @@ module _ (moment at poll_ms : ℕ) (kind : LinkKind) (old_past new_past : Option
         let spent : next_of (after_steps moment (steps_over_link nothing fact.Quiet texts count) old.sender) ≡ None =
         ap next_of (sym a.sender) ∙ (h.kept.spent up (fact_is ∙ found)).sent
         in
-        let said = hello_talk moment texts count old.sender w a.added g.greeting.is a.allowed a.are spent in
+        let silent : texts ≡ [] = ap texts_in (connecting_silent moment mid.sender.acked h.turn.lines old.desk turned.ending mid.desk g.connects (met_noted 11 [] true g fact.Quiet found)) in
+        let said = hello_talk moment texts count old.sender w a.added silent g.greeting.is a.allowed a.are spent in
         let S : SenderData → Type 0 = λ s. IsGreeting (hello_frame ∷ []) false s (world_from w a.added) in
         let course = met_course 11 [] true g in
         let later : moment < moment_after moment old.desk.poll_ms = subst (λ (ms : ℕ). moment < moment_after moment ms) (sym g.desk.its_ms) h.poll_later in
@@ -272,11 +286,11 @@ module _ (moment at poll_ms : ℕ) (kind : LinkKind) (old_past new_past : Option
         ∙ ready-remaining p mid.sender.acked moment old.desk g.desk.issued more g.desk.course
         ∙ connecting-remaining p old.desk g.connects
         in
-        let none_issued : old.sender.issued ≡ 0 = i.sound.hello_first i.unready in
+        let unissued : old.sender.issued ≡ 0 = none_issued old.sender i.sound i.unready i.none_held in
         let mid_issued : mid.sender.issued ≡ old.sender.issued = ap (λ (s : SenderData). s.issued) sender in
         let mid_acked : mid.sender.acked ≡ old.sender.acked = ap (λ (s : SenderData). s.acked) sender in
         let mid_cursor : mid.sender.cursor ≡ old.sender.cursor = ap (λ (s : SenderData). s.cursor) sender in
-        let none_acked : old.sender.acked ≡ 0 = omega (arith, i.sound.counted, none_issued) in
+        let none_acked : old.sender.acked ≡ 0 = i.sound.none_acked i.unready in
         let G : Data → Type 0 = λ d. IsGoing kind p poll_ms at (left - 1) new_past (record mid { desk = d }) in
         subst G (sym (ap (λ (x : Answer). x.1) so.0)) (record {
           up = up_by fact.Ready found;
@@ -288,12 +302,12 @@ module _ (moment at poll_ms : ℕ) (kind : LinkKind) (old_past new_past : Option
             its_ms = ap (λ (x : Data). x.poll_ms) desk ∙ ready_ms mid.sender.acked moment old.desk g.connects ∙ g.desk.its_ms;
           };
           saying = at_world kind g.greeting.now a.added new_past (λ v. IsReadySession mid.sender v) a.recorded (subst S (sym sender) heard.1);
-          spoken = omega (arith, mid_cursor, mid_issued, none_issued, i.cursor_is);
+          spoken = omega (arith, mid_cursor, mid_issued, unissued, i.cursor_is);
           due = 1;
           due_is = λ now. omega arith;
           silences = 4;
           phase = starts refl;
-          enough = omega (arith, g.enough, left_over, mid_issued, mid_acked, none_issued, none_acked);
+          enough = omega (arith, g.enough, left_over, mid_issued, mid_acked, unissued, none_acked);
           few = omega (arith, g.few, mid_acked, none_acked);
         })
 

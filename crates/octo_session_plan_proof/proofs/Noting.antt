@@ -183,7 +183,7 @@ module _ (p : PrintData) where
   fails : (b : Bool) (d : Data) (issued : List (List ℕ)) → d.active ≡ b → IsUnderway p d issued
       → NotedSo issued (
         cond b (Some (record { print = d.greatest; outcome = outcome.Failed })) None,
-        record d { state = Fault; active = false; waiting = []; manual = []; stopped = false },
+        record d { state = Fault; active = false; waiting = []; manual = []; stopped = false; linked = false },
       )
   fails b d issued e h = (
     record {

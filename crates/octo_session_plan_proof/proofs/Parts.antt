@@ -19,7 +19,7 @@ use Rattle.octo_session_plan_proof.proofs.Saying.{next_in_turn}
 -- with nothing unacknowledged there is room for a line
 pub some_room : (s : SenderData) → s.ended ≡ None → s.ready ≡ true → IsSound s → s.acked ≡ s.issued → s.issued < most_lines → room_of s ≡ 0 → ⊥
 some_room s running ready sound all few none =
-    let room : room_of s ≡ min (s.window - (s.issued - s.acked)) (most_lines - s.issued) =
+    let room : room_of s ≡ min (s.window + s.extra - (s.issued - s.acked)) (most_lines - s.issued) =
     ap (λ (e : Option SessionEnd). room_at e s.ready s) running ∙ ap (λ (b : Bool). room_at None b s) ready
     in
     omega (arith, room, none, all, few, sound.open_window)

@@ -4,7 +4,7 @@ use Rattle.std.proofs.lemmas.Bool.{and_parts, leb-true}
 use Rattle.job_desk.specs.Data.{Data, Line, commands_of, with_script, moment_after}
 use Rattle.job_desk.specs.declared.state.Point.TheVariants as point
 use Rattle.job_desk.specs.Course.{job_line}
-use Rattle.job_desk.specs.Pull.{Drawn, draw_in_order, nothing, issue, from_scripts, from_manual, from_poll, poll_is_due, from_probe, from_file, draw_last, draw_at, is_issued, settle_at, settled, pull_step}
+use Rattle.job_desk.specs.Pull.{Drawn, draw_in_order, nothing, issue, from_scripts, from_manual, from_poll, poll_is_due, polled_line, from_probe, from_file, draw_last, draw_at, is_issued, settle_at, settled, pull_step}
 use Rattle.job_desk.specs.declared.state.State.{State}
 use Rattle.job_desk.specs.declared.state.State.TheVariants.{Offline, Connecting, Operational, Printing, Pausing, Paused, Cancelling, Finishing, Closing, Fault}
 use Rattle.job_desk.specs.declared.state.Tag.TheVariants.{Poll}
@@ -64,7 +64,7 @@ both_paced moment line lines old next new later ms (inr first) (inr rest) =
 
 -- the moment of a poll that is due has come
 due : (moment : ℕ) (d : Data) → poll_is_due moment d ≡ true → d.poll_at ≤ moment
-due moment d e = leb-true d.poll_at moment (and_parts (nat_le d.poll_at moment) (nat_le d.poll_line d.acked) e).0
+due moment d e = leb-true d.poll_at moment (and_parts (nat_le d.poll_at moment) (nat_le (polled_line d) d.acked) e).0
 
 poll_tag : (got : Line) → ◌≡◌ {A = Option Line} (Some (record { text = codes "M105"; tag = Poll })) (Some got) → planned_tag got.tag ≡ 0
 poll_tag got is =

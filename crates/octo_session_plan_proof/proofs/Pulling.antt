@@ -2,7 +2,7 @@
 use Rattle.std.proofs.Common.{◌≡◌, ℕ, ◌+◌, ◌<◌, min, Bool, true, false, cond, nat_le, nat_lt, ◌&&◌, ◌==◌, take, codes, List, [], ◌∷◌, ◌++◌, length, slice_get, Option, None, Some, refl, sym, ◌∙◌, ap, subst, arith, append_assoc}
 use Rattle.std.proofs.lemmas.List.{append-nil}
 use Rattle.job_desk.specs.Data.{Data, Line, with_script, script_lines, commands_of, moment_after}
-use Rattle.job_desk.specs.Pull.{Drawn, draw_idle, draw_in_order, nothing, issue, from_scripts, from_manual, poll_is_due, from_probe, probe_is_due, from_file, draw_last, draw_at, is_issued, settle_at, settled, pull_step}
+use Rattle.job_desk.specs.Pull.{Drawn, draw_idle, draw_in_order, nothing, issue, from_scripts, from_manual, poll_is_due, from_probe, put_off, probe_is_due, from_file, draw_last, draw_at, is_issued, settle_at, settled, pull_step}
 use Rattle.job_desk.specs.Course.{job_line}
 use Rattle.job_desk.specs.Plain.{numbered}
 use Rattle.job_desk.specs.declared.state.State.{State}
@@ -117,10 +117,10 @@ module _ (p : PrintData) where
   -- a probe comes only if `ok`s have numbers
   probes_if : (b : Bool) (awaited moment : ℕ) (d : Data) (issued : List (List ℕ)) → probe_is_due awaited moment d ≡ b → (d.state ≡ Offline → ⊥)
       → IsUnderway p d issued
-      → Kept issued (cond b (issue (record { text = codes "M400"; tag = Poll }) (record d { probe_at = moment_after moment d.poll_ms })) (nothing d))
+      → Kept issued (cond b (issue (record { text = codes "M400"; tag = Poll }) (put_off moment d)) (nothing d))
   probes_if false awaited moment d issued is online h = h
   probes_if true awaited moment d issued is online h =
-      let now : Data = record d { probe_at = moment_after moment d.poll_ms } in
+      let now : Data = put_off moment d in
       let on : p.numbered ≡ true = sym h.numbered_is ∙ (and_parts d.numbered (nat_le d.probe_at moment && nat_lt d.acked awaited) is).0 in
       let counted : now.issued < 18446744073709551615 → IsCounted now issued =
       λ below. (let c = h.counted below in record { all = c.all; print = c.print; last = c.last }) in

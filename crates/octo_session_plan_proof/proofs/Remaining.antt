@@ -72,11 +72,12 @@ module _ (p : PrintData) where
   none_falls : (d : Data) → Falls p d (nothing d)
   none_falls d = omega arith
 
-  probe_falls : (b : Bool) (at : ℕ) (d : Data) → Falls p d (cond b (issue (record { text = codes "M400"; tag = Poll }) (record d { probe_at = at })) (nothing d))
+  probe_falls : (b : Bool) (at : ℕ) (d : Data)
+      → Falls p d (cond b (issue (record { text = codes "M400"; tag = Poll }) (record d { poll_at = at; probe_at = at })) (nothing d))
   probe_falls false at d = none_falls d
   probe_falls true at d =
-      let same_standing : remaining p (standing (issue (record { text = codes "M400"; tag = Poll }) (record d { probe_at = at })).1) ≡ remaining p
-      (standing d) = ap (remaining p) (issue_same_standing (record { text = codes "M400"; tag = Poll }) (record d { probe_at = at })) in
+      let same_standing : remaining p (standing (issue (record { text = codes "M400"; tag = Poll }) (record d { poll_at = at; probe_at = at })).1) ≡ remaining p
+      (standing d) = ap (remaining p) (issue_same_standing (record { text = codes "M400"; tag = Poll }) (record d { poll_at = at; probe_at = at })) in
       omega (arith, same_standing)
 
   probes_fall : (awaited moment : ℕ) (d : Data) → Falls p d (from_probe awaited moment d)

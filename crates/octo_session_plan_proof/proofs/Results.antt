@@ -4,7 +4,7 @@ use Rattle.std.proofs.lemmas.List.{append-nil}
 use Rattle.std.proofs.lemmas.Bool.{false≢true}
 use Rattle.std.proofs.lemmas.List.Elements.{All-head}
 use Rattle.job_desk.specs.Data.{Data, Line, moment_after}
-use Rattle.job_desk.specs.Pull.{Drawn, draw_idle, nothing, issue, from_scripts, from_manual, poll_is_due, from_probe, probe_is_due, draw_last, draw_at, pull_step}
+use Rattle.job_desk.specs.Pull.{Drawn, draw_idle, nothing, issue, from_scripts, from_manual, poll_is_due, from_probe, put_off, probe_is_due, draw_last, draw_at, pull_step}
 use Rattle.job_desk.specs.declared.state.State.TheVariants.{Offline}
 use Rattle.job_desk.specs.declared.state.Tag.TheVariants.{Poll}
 use Rattle.octo_session_plan_proof.specs.Plan.{PrintData, print_commands, plan_lines}
@@ -63,7 +63,7 @@ module _ (p : PrintData) where
 
   probe_late : (awaited moment : ℕ) (d : Data) → IsLate (from_probe awaited moment d)
   probe_late awaited moment d =
-      poll_late (probe_is_due awaited moment d) (codes "M400") (record d { probe_at = moment_after moment d.poll_ms }) (nothing d) (none_late d)
+      poll_late (probe_is_due awaited moment d) (codes "M400") (put_off moment d) (nothing d) (none_late d)
 
   scripts_late : (w : List Line) (d : Data) (next : Drawn) → All IsLast w → IsLate next → IsLate (from_scripts w d next)
   scripts_late [] d next last late line e = late line e

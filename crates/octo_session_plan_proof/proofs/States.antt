@@ -2,7 +2,7 @@
 use Rattle.std.proofs.Common.{◌≡◌, ℕ, Bool, true, false, cond, codes, List, [], ◌∷◌, Option, None, Some, refl, sym, ◌∙◌, ap}
 use Rattle.job_desk.specs.declared.link_fact.LinkFact.TheVariants as fact
 use Rattle.job_desk.specs.Data.{Data, Line, moment_after}
-use Rattle.job_desk.specs.Pull.{Drawn, nothing, draw_at, settle_at, settled, pull_step, issue, from_scripts, from_manual, poll_is_due, from_probe, probe_is_due}
+use Rattle.job_desk.specs.Pull.{Drawn, nothing, draw_at, settle_at, settled, pull_step, issue, from_scripts, from_manual, poll_is_due, from_probe, put_off, probe_is_due}
 use Rattle.job_desk.specs.Note.{Noted, end_at, ready_at, fail, note_step, with_acked}
 use Rattle.job_desk.specs.declared.state.State.{State}
 use Rattle.job_desk.specs.declared.state.State.TheVariants.{Connecting, Operational, Fault}
@@ -39,7 +39,7 @@ pub kept_probe : (awaited moment : ℕ) (d : Data) → (from_probe awaited momen
 kept_probe awaited moment d = choose (probe_is_due awaited moment d)
   where
     asked : Data
-    asked = record d { probe_at = moment_after moment d.poll_ms }
+    asked = put_off moment d
 
     choose : (b : Bool) → (cond b (issue (record { text = codes "M400"; tag = Poll }) asked) (nothing d)).1.state ≡ d.state
     choose true = issue_state (record { text = codes "M400"; tag = Poll }) asked

@@ -89,7 +89,7 @@ desk_made kind issued x d past added made =
     let o = made.opened in
     record {
       once = made.once;
-      opened = record { front = o.front; last = o.last; rest = o.rest; is = o.is; can = o.can; traced = o.traced; open_as = o.open_as; quiet = o.quiet; caused = o.caused; suits = o.suits };
+      opened = record { front = o.front; last = o.last; rest = o.rest; is = o.is; can = o.can; traced = o.traced; open_as = o.open_as; quiet = o.quiet; greets = o.greets; caused = o.caused; suits = o.suits };
     }
 
 module _ (kind : LinkKind) (p : PrintData) (port : List ℕ) (first now : Option (List WorldEvent)) (x : SessionData) where

@@ -2,7 +2,9 @@
 use Rattle.std.proofs.Common.{◌≡◌, ◌≢◌, ◌⊎◌, inl, inr, ℕ, zero, suc, ◌≤◌, Bool, false, List, [], ◌∷◌, ◌++◌, length, take, refl, sym, ◌∙◌, ap, subst, arith}
 use Rattle.std.specs.Prelude.{◌<◌, Option, Some, None}
 use Rattle.printer_model.specs.Executed.{opens, executed}
+use Rattle.printer_model.specs.World.{apply, world_from}
 use Rattle.printer_model.specs.declared.event.WorldEvent.{WorldEvent}
+use Rattle.printer_model.specs.declared.event.WorldEvent.TheVariants.{Opened}
 use Rattle.printer_link.specs.Link.{LinkKind, world_in}
 use Rattle.octo_session.specs.Plan.{Weave, empty, planned, polled, probed, WeavesPart}
 use Rattle.octo_session.specs.Data.{SessionData}
@@ -11,13 +13,17 @@ use Rattle.octo_session_plan_proof.proofs.Rests.{longer_weaves}
 use Rattle.octo_session_plan_proof.proofs.Weaves.{part_of}
 use Rattle.octo_session_line_proof.specs.AllSent.{AreAllSent}
 use Rattle.octo_session_line_proof.specs.History.{IsMade}
+use Rattle.octo_session_line_proof.specs.Linked.{start_of, opened as by_opened}
+use Rattle.octo_session_line_proof.proofs.Fitting.{fits_holds}
+use Rattle.octo_session_line_proof.proofs.Turned.{sound_of}
 use Rattle.octo_session.specs.Tied.{HasIssued}
 use Rattle.send_window.specs.Patience.{IsUnanswered, IsMissing}
 use Rattle.octo_session_print.specs.Printed.{HasPrinted}
 use Rattle.octo_session_print.specs.declared.end.PrintEnd.{PrintEnd}
 use Rattle.octo_session_print.specs.declared.end.PrintEnd.TheVariants as end
 use Rattle.std.specs.Prelude.{◌*◌}
-use Rattle.send_window.specs.Data.{most_lines}
+use Rattle.send_window.specs.Data.{IsSound, most_lines}
+use Rattle.send_window.specs.Session.{HoldsIssued}
 use Rattle.send_window.specs.Hearing.{later}
 use Rattle.send_window.specs.declared.session_end.SessionEnd.{SessionEnd}
 use Rattle.send_window.specs.declared.session_end.SessionEnd.TheVariants.{NoAnswer, AskedBack, AskedAhead, Counts, Restarted, LostOk, NumbersUsed}
@@ -91,26 +97,33 @@ pub by_plan : (kind : LinkKind) (p : PrintData) (issued : List (List ℕ)) (x : 
     HasIssued x.sender.numbered kind issued x.sender.acked past added → HasIssued p.numbered kind issued x.sender.acked past added
 by_plan kind p issued x past added same = subst (λ (n : Bool). HasIssued n kind issued x.sender.acked past added) same
 
-none_of : {X : Type 0} (xs : List X) → length xs ≡ 0 → xs ≡ []
-none_of [] none = refl
-none_of (x ∷ xs) none = absurd (omega (arith, none))
+-- the sender of a print is sound, and holds what was issued
+made_sound : (kind : LinkKind) (issued : List (List ℕ)) (x : SessionData) (past added : List WorldEvent) → IsMade kind issued x past added → IsSound x.sender
+made_sound kind issued x past added made = sound_of kind issued x (past ++ added) (by_opened made.opened)
+
+made_holds : (kind : LinkKind) (issued : List (List ℕ)) (x : SessionData) (past added : List WorldEvent) → IsMade kind issued x past added →
+    HoldsIssued issued x.sender
+made_holds kind issued x past added made =
+    let o = made.opened in
+    fits_holds (start_of kind o.front x.sender.numbered o.rest) issued x.sender (world_from (apply (world_in kind o.front) (Opened o.last)) o.rest) o.traced.meets
 
 -- a sender that waits for an answer issued nothing, or not all is acknowledged
 pub unanswered_of : (kind : LinkKind) (issued : List (List ℕ)) (x : SessionData) (past added : List WorldEvent) → IsMade kind issued x past added →
     IsUnanswered x.sender → (issued ≡ []) ⊎ (x.sender.acked < length issued)
-unanswered_of kind issued x past added made (inl unready) =
-    let n = made.opened.traced.meets.numbers in
-    inl (none_of issued (sym n.holds.count ∙ n.sound.hello_first unready))
+unanswered_of kind [] x past added made (inl unready) = inl refl
+unanswered_of kind (text ∷ issued) x past added made (inl unready) =
+    let sound : IsSound x.sender = made_sound kind (text ∷ issued) x past added made in
+    inr (omega (arith, sound.none_acked unready))
 unanswered_of kind issued x past added made (inr above) =
-    let n = made.opened.traced.meets.numbers in
-    inr (omega (arith, above, n.holds.count))
+    let holds : HoldsIssued issued x.sender = made_holds kind issued x past added made in
+    inr (omega (arith, above, holds.count))
 
 -- and one of which an `ok` is missing not all of them
 pub missing_of : (kind : LinkKind) (issued : List (List ℕ)) (x : SessionData) (past added : List WorldEvent) → IsMade kind issued x past added →
     IsMissing x.sender → x.sender.acked < length issued
 missing_of kind issued x past added made missing =
-    let n = made.opened.traced.meets.numbers in
-    omega (arith, missing.1, n.holds.count)
+    let holds : HoldsIssued issued x.sender = made_holds kind issued x past added made in
+    omega (arith, missing.1, holds.count)
 
 -- the moment of the turn that ended the print
 pub waited_by : (how : PrintEnd) (began now : Option ℕ) (limit : ℕ) →

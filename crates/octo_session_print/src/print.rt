@@ -62,7 +62,7 @@ pub fn run_print<L: Link, T: Clock>(
     requires suits { SuitsAs session.old.sender.numbered (L.past link.old) (L.kind link.old).oks }
 
     // If the link records its history: a prefix of the plan was issued, with `M105` put in, and `M400` if `ok`s have numbers, and
-    // a prefix of that was executed, in one session at most. Each line sent in it is the hello or wasn't acknowledged then. If the
+    // a prefix of that was executed, in one session at most. Each line sent in it is a hello or wasn't acknowledged then. If the
     // print is done, all of the plan was executed and acknowledged.
     ensures printed { Recorded (L.past link.old) (L.past link.new)
         (HasPrinted session.old.sender.numbered (L.kind link.old)
