@@ -157,7 +157,7 @@ fn loses(
 fn lost_replies(rt: HostRuntime) -> Result<(), Fail> {
     loses(&rt, rt.alloc(), &[], (3, 8, 2))?;
     loses(&rt, rt.alloc(), &[2], (3, 8, 2))?;
-    loses(&rt, rt.alloc(), &[3], (4, 12, 3))
+    loses(&rt, rt.alloc(), &[3], (4, 10, 2))
 }
 
 #[test]

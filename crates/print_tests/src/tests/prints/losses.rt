@@ -28,25 +28,19 @@ const HARMED: Asked = Asked {
     ..SIX_ASKED
 };
 
-// How a host prints: in a window of how many lines, and with how many milliseconds between two polls.
-#[derive(Clone, Copy)]
-struct Sending {
-    window: u8,
-    poll: u64,
-}
-
-// A print over a printer whose `ok`s have numbers. These of its replies are lost.
+// Prints over a printer whose `ok`s have numbers, in a window of this number of lines, and with this number of milliseconds between
+// two polls. These of the replies are lost.
 fn print_surely(
     alloc: Global,
     asked: &Asked,
-    sending: Sending,
+    window: u8,
+    poll: u64,
     lost: &[u64],
 ) -> Result<Printed, Fail>
-    requires open_window { 1 ≤ sending.window }
-    requires small_window { sending.window ≤ 16 }
-    requires some_poll { 1 ≤ sending.poll }
+    requires open_window { 1 ≤ window }
+    requires small_window { window ≤ 16 }
+    requires some_poll { 1 ≤ poll }
 {
-    let Sending { window, poll } = sending;
     let mut session = session_of(alloc, Scripts::new(alloc), window, poll, true)?;
     let mut link = losing_link(alloc, &asked.wire, lost)?;
     let end = print_over(alloc, &mut session, &mut link, asked)?;
@@ -60,84 +54,80 @@ const TWO: Asked = Asked {
     ..PLAIN
 };
 
-// The lines that a printer runs if the `ok` of the second command is lost: the host asks for the temperatures, and probes.
-const PROBED: [&str; 4] = ["G28", "G1 X10", "M105", "M400"];
+// The lines that a printer runs if the `ok` of the second command is lost: the host probes.
+const PROBED: [&str; 3] = ["G28", "G1 X10", "M400"];
 
-// The `ok` of the last line is lost: the probe's `ok` names a line after it, so nothing is sent again.
+// The `ok` of the last line is lost: the probe's `ok` names a line after it, so nothing is sent again. If the limit is before the next
+// poll, the line is sent again, and the printer asks for the one after it. That acknowledges nothing.
 #[test]
 fn last_ok_lost(rt: HostRuntime) -> Result<(), Fail> {
-    let sending = Sending {
-        window: 4,
-        poll: 5_000,
-    };
-    let printed = print_surely(rt.alloc(), &TWO, sending, &[3])?;
-    check_print(&rt, &printed, PrintEnd::Done, 5, &PROBED);
+    let printed = print_surely(rt.alloc(), &TWO, 4, 5_000, &[3])?;
+    check_print(&rt, &printed, PrintEnd::Done, 4, &PROBED);
+    let later = print_surely(rt.alloc(), &TWO, 4, 40_000, &[3])?;
+    check_print(&rt, &later, PrintEnd::Done, 5, &PROBED);
     Ok(())
 }
 
-// If the limit is before the next poll, the line is sent again, and the printer asks for the one after it. That acknowledges nothing.
-#[test]
-fn last_ok_lost_for_a_limit(rt: HostRuntime) -> Result<(), Fail> {
-    let sending = Sending {
-        window: 4,
-        poll: 40_000,
-    };
-    let printed = print_surely(rt.alloc(), &TWO, sending, &[3])?;
-    check_print(&rt, &printed, PrintEnd::Done, 6, &PROBED);
-    Ok(())
-}
+// The same, of whose lines the first, the hello, is lost.
+const UNGREETED: Asked = Asked {
+    wire: Wire {
+        fates: &[L],
+        ..SOUND
+    },
+    ..TWO
+};
 
-// The `ok` of the hello is lost: nobody answers for five limits, and nothing but the hello is executed.
+// The first hello is lost, or its `ok`, and the second hello has one; or those of all five hellos are lost.
 #[test]
 fn first_ok_lost(rt: HostRuntime) -> Result<(), Fail> {
-    let sending = Sending {
-        window: 4,
-        poll: 5_000,
-    };
-    let printed = print_surely(rt.alloc(), &TWO, sending, &[1])?;
+    let printed = print_surely(rt.alloc(), &TWO, 4, 5_000, &[1])?;
+    check_print(&rt, &printed, PrintEnd::Done, 4, &["G28", "G1 X10"]);
+    let greeted = print_surely(rt.alloc(), &UNGREETED, 4, 5_000, &[])?;
+    check_print(&rt, &greeted, PrintEnd::Done, 4, &["G28", "G1 X10"]);
+    let none = print_surely(rt.alloc(), &TWO, 4, 5_000, &[1, 2, 3, 4, 5])?;
     let end = PrintEnd::Ended(SessionEnd::NoAnswer { silent: 5 });
-    check_print(&rt, &printed, end, 1, &[]);
+    check_print(&rt, &none, end, 5, &[]);
     Ok(())
 }
 
-// A print of the six commands in a window of this number of lines.
-fn print_six(alloc: Global, asked: &Asked, window: u8, lost: &[u64]) -> Result<Printed, Fail>
-    requires open_window { 1 ≤ window }
-    requires small_window { window ≤ 16 }
-{
-    let sending = Sending {
-        window,
-        poll: 5_000,
-    };
-    print_surely(alloc, asked, sending, lost)
-}
-
-// A print is done, and the printer ran each command once.
+// A print of the six commands is done, and the printer ran each once.
 fn check_done(rt: &impl Abort, printed: &Printed) {
     assert_eq!(rt; printed.end, PrintEnd::Done);
     assert_eq!(rt; check_commands(rt, &printed.link, &SIX), SIX.len());
 }
 
-// Any two of the replies after the hello's are lost, or one, in a window of four lines.
-#[test]
-fn oks_lost(rt: HostRuntime) -> Result<(), Fail> {
-    for first in 2..10 {
+// Any two of the first nine replies are lost, or one.
+fn lose_pairs(rt: &impl Abort, alloc: Global, window: u8) -> Result<(), Fail>
+    requires open_window { 1 ≤ window }
+    requires small_window { window ≤ 16 }
+{
+    for first in 1..10 {
         for second in first..10 {
-            check_done(
-                &rt,
-                &print_six(rt.alloc(), &SIX_ASKED, 4, &[first, second])?,
-            );
+            let lost = [first, second];
+            check_done(rt, &print_surely(alloc, &SIX_ASKED, window, 5_000, &lost)?);
         }
     }
     Ok(())
 }
 
+// They are, in windows of one to four lines.
+#[test]
+fn oks_lost(rt: HostRuntime) -> Result<(), Fail> {
+    lose_pairs(&rt, rt.alloc(), 1)?;
+    lose_pairs(&rt, rt.alloc(), 2)?;
+    lose_pairs(&rt, rt.alloc(), 3)?;
+    lose_pairs(&rt, rt.alloc(), 4)
+}
+
 // Each reply is lost in turn, also those of a refusal: an error, a Resend and an `ok`.
 #[test]
 fn replies_of_refusals_lost(rt: HostRuntime) -> Result<(), Fail> {
-    for lost in 2..30 {
-        check_done(&rt, &print_six(rt.alloc(), &HARMED, 3, &[lost])?);
-        check_done(&rt, &print_six(rt.alloc(), &HARMED, 4, &[lost])?);
+    for lost in 1..31 {
+        let lost = [lost];
+        check_done(&rt, &print_surely(rt.alloc(), &HARMED, 1, 5_000, &lost)?);
+        check_done(&rt, &print_surely(rt.alloc(), &HARMED, 2, 5_000, &lost)?);
+        check_done(&rt, &print_surely(rt.alloc(), &HARMED, 3, 5_000, &lost)?);
+        check_done(&rt, &print_surely(rt.alloc(), &HARMED, 4, 5_000, &lost)?);
     }
     Ok(())
 }
@@ -153,28 +143,6 @@ fn check_honest(rt: &impl Abort, end: PrintEnd, link: &MemoryLink) {
         PrintEnd::Ended(SessionEnd::AskedBack { .. }) => {}
         _ => panic!(rt; "another end"),
     }
-}
-
-// A small window may be full of lines whose `ok`s are lost, and of an `M105`: then a probe has no room.
-fn fill_window(rt: &impl Abort, alloc: Global, window: u8) -> Result<(), Fail>
-    requires open_window { 1 ≤ window }
-    requires small_window { window ≤ 16 }
-{
-    for first in 2..10 {
-        for second in first..10 {
-            let printed = print_six(alloc, &SIX_ASKED, window, &[first, second])?;
-            check_honest(rt, printed.end, &printed.link);
-        }
-    }
-    Ok(())
-}
-
-#[test]
-fn small_windows(rt: HostRuntime) -> Result<(), Fail> {
-    for window in 1..4 {
-        fill_window(&rt, rt.alloc(), window)?;
-    }
-    Ok(())
 }
 
 // A print whose sender counts `ok`s, in a window of this number of lines. These of the replies are lost as they are received.
@@ -195,36 +163,47 @@ fn print_counting(
     Ok(())
 }
 
-// Any two replies are lost, or one.
-fn count_without_two(rt: &impl Abort, alloc: Global, window: u8) -> Result<(), Fail>
+// The two prints by a clock whose every rest takes ten seconds: a host that counts `ok`s may wait for ten minutes.
+const SIX_AWAITED: Asked = Asked {
+    rest: 10_000,
+    ..SIX_ASKED
+};
+
+const HARMED_AWAITED: Asked = Asked {
+    rest: 10_000,
+    ..HARMED
+};
+
+// Without numbers each print comes to an end of which one of the first nine replies is lost, or two.
+fn lose_counted(rt: &impl Abort, alloc: Global, window: u8) -> Result<(), Fail>
     requires open_window { 1 ≤ window }
     requires small_window { window ≤ 16 }
 {
     for first in 1..10 {
         for second in first..10 {
-            print_counting(rt, alloc, &SIX_ASKED, window, &[first, second])?;
+            print_counting(rt, alloc, &SIX_AWAITED, window, &[first, second])?;
         }
     }
     Ok(())
 }
 
-// Each reply is lost in turn, also those of refusals.
-fn count_without_each(rt: &impl Abort, alloc: Global, window: u8) -> Result<(), Fail>
-    requires open_window { 1 ≤ window }
-    requires small_window { window ≤ 16 }
-{
-    for lost in 1..30 {
-        print_counting(rt, alloc, &HARMED, window, &[lost])?;
-    }
-    Ok(())
-}
-
-// Without numbers each such print comes to an end.
+// They do, in windows of one to four lines.
 #[test]
 fn counted_oks_lost(rt: HostRuntime) -> Result<(), Fail> {
-    for window in 1..=4 {
-        count_without_two(&rt, rt.alloc(), window)?;
-        count_without_each(&rt, rt.alloc(), window)?;
+    lose_counted(&rt, rt.alloc(), 1)?;
+    lose_counted(&rt, rt.alloc(), 2)?;
+    lose_counted(&rt, rt.alloc(), 3)?;
+    lose_counted(&rt, rt.alloc(), 4)
+}
+
+// The same if the line loses and corrupts lines too, and each reply is lost in turn.
+#[test]
+fn counted_replies_of_refusals_lost(rt: HostRuntime) -> Result<(), Fail> {
+    for lost in 1..31 {
+        print_counting(&rt, rt.alloc(), &HARMED_AWAITED, 1, &[lost])?;
+        print_counting(&rt, rt.alloc(), &HARMED_AWAITED, 2, &[lost])?;
+        print_counting(&rt, rt.alloc(), &HARMED_AWAITED, 3, &[lost])?;
+        print_counting(&rt, rt.alloc(), &HARMED_AWAITED, 4, &[lost])?;
     }
     Ok(())
 }
