@@ -7,9 +7,9 @@ use Rattle.temp_rules.specs.Hot.{first_hot_of}
 use Rattle.job_desk.specs.Course.{job_line}
 use Rattle.job_desk.specs.Data.{Data, File, Line, with_script, moment_after}
 use Rattle.job_desk.specs.Note.{Noted, after_ending, is_over, end_at, hung_up, fail, ready_at, after_open, note_fact, note_step, with_acked}
-use Rattle.job_desk.specs.Pull.{Drawn, draw_in_order, nothing, next_number, keep_number, issue, from_scripts, from_manual, from_poll, poll_is_due, from_probe, probe_is_due, from_file, draw_idle, draw_last, draw_at, is_issued, settle_at, settled, pull_step}
+use Rattle.job_desk.specs.Pull.{Drawn, draw_in_order, nothing, next_number, keep_number, issue, from_scripts, from_manual, from_poll, poll_is_due, from_probe, put_off, probe_is_due, from_file, draw_idle, draw_last, draw_at, is_issued, settle_at, settled, pull_step}
 use Rattle.job_desk.specs.Run.{DeskCall, Connect, Disconnect, Select, DropFile, Start, Restart, Pause, Resume, Toggle, Cancel, Manually, Pull, Note}
-use Rattle.job_desk.specs.Table.{connect_at, disconnect_at, select_at, drop_file_step, is_named, start_checked, start_file, start_at, restart_at, pause_at, resume_at, toggle_at, cancel_at, manual_at, take_manual, is_stop}
+use Rattle.job_desk.specs.Table.{connect_at, disconnect_at, select_at, drop_file_step, is_named, start_checked, start_file, start_at, restart_at, pause_at, resume_at, toggle_at, cancel_at, manual_at, take_manual, is_stop, may_stop_closing}
 use Rattle.job_desk.specs.declared.state.State.{State}
 use Rattle.job_desk.specs.declared.state.State.TheVariants.{Offline, Connecting, Operational, Printing, Pausing, Paused, Cancelling, Finishing, Closing}
 use Rattle.job_desk.specs.declared.state.Point.TheVariants as point
@@ -85,7 +85,8 @@ made-manual Pausing lines d = made-takes lines d
 made-manual Paused lines d = made-takes lines d
 made-manual Cancelling lines d = made-takes lines d
 made-manual Finishing lines d = made-takes lines d
-made-manual Closing lines d = choose_pair (λ e. IsMadeAs d e) (is_stop lines && d.ready) _ _ (refl, refl, refl) (refl, refl, refl)
+made-manual Connecting lines d = choose_pair (λ e. IsMadeAs d e) (is_stop lines && d.linked) _ _ (refl, refl, refl) (refl, refl, refl)
+made-manual Closing lines d = choose_pair (λ e. IsMadeAs d e) (is_stop lines && may_stop_closing d) _ _ (refl, refl, refl) (refl, refl, refl)
 made-manual _ lines d = (refl, refl, refl)
 
 made-keep : (tag : Tag) (number : ℕ) (d : Data) → IsMadeAs d (keep_number tag number d)
@@ -114,7 +115,7 @@ made-poll moment d next made =
 made-probe : (awaited moment : ℕ) (d : Data) → IsMadeAs d (from_probe awaited moment d).1
 made-probe awaited moment d =
     choose_pair (λ e. IsMadeAs d e) (probe_is_due awaited moment d) _ (nothing d) (made-issue (record { text = codes "M400"; tag = Poll }) d
-    (record d { probe_at = moment_after moment d.poll_ms }) (refl, refl, refl)) (refl, refl, refl)
+    (put_off moment d) (refl, refl, refl)) (refl, refl, refl)
 
 made-command : (text : Option (List ℕ)) (d : Data) → IsMadeAs d (from_file text d).1
 made-command None d = (refl, refl, refl)

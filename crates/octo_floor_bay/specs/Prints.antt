@@ -19,4 +19,4 @@ pub record IsSoundOver (kind : LinkKind) (front past : List WorldEvent) (b : Bay
   pub since : List WorldEvent
   pub past_is : past ≡ till_last ++ since
   pub tied : AreTied b.session.sender.numbered kind front (history_in b.deeds) till_last
-  pub prints : ArePrintsSound kind front (first_desk b.session) (desk_entries b.deeds) tied.timeline
+  pub prints : ArePrintsSound b.session.sender.numbered kind front (first_desk b.session) (desk_entries b.deeds) tied.timeline

@@ -23,7 +23,7 @@ record Stayed (p home reach : ℕ) (whole : History) : Type 0 where
   none : print_lines p (drop reach (issued_of home whole)) ≡ []
 
 pub ended_prints_unsent : (numbered : Bool) (kind : LinkKind) (front : List WorldEvent) (desk : Data) (entries : List DeskEntry) (past : List WorldEvent)
-    (run : IsPrinterRun numbered kind front desk entries past) → EachEndedPrintIsSentNoMore kind front desk entries run.tied.timeline
+    (run : IsPrinterRun numbered kind front desk entries past) → EachEndedPrintIsSentNoMore numbered kind front desk entries run.tied.timeline
 ended_prints_unsent numbered kind front desk entries past run first so_far is p some fate ends =
     let t = run_then numbered kind front desk entries past run first so_far is in
     let fates : List Fate = of_print p (run_over so_far desk).ends in
@@ -36,21 +36,21 @@ ended_prints_unsent numbered kind front desk entries past run first so_far is p 
     let stayed : Stayed p o.home so.reach (history_of first ++ history_of is.later) =
     subst (λ (h : History). Stayed p o.home so.reach h) t.whole (record { lives = stays.0; none = stays.1 })
     in
-    subst (λ (x : History). IsSentNoMore kind front p fate (history_of first) x (past_after front first) (events_of is.later))
+    subst (λ (x : History). IsSentNoMore numbered kind front p fate (history_of first) x (past_after front first) (events_of is.later))
     (sym (ap history_of is.timeline_is ∙ history_of-append first is.later))
     (by t (entries_in so_far) is.same fates ends o so stayed)
   where
     by : IsThen numbered kind front desk so_far is.more first is.later → (now : History) → now ≡ history_of first → (fates : List Fate) → fates ≡ fate ∷ [] →
         (o : IsEnded p now fates) (so : IsPast p now o.home) → Stayed p o.home so.reach (history_of first ++ history_of is.later) →
-        IsSentNoMore kind front p fate (history_of first) (history_of first ++ history_of is.later) (past_after front first) (events_of is.later)
+        IsSentNoMore numbered kind front p fate (history_of first) (history_of first ++ history_of is.later) (past_after front first) (events_of is.later)
     by t now same fates ends =
         subst (λ (h : History). (o : IsEnded p h fates) (so : IsPast p h o.home) → Stayed p o.home so.reach (history_of first ++ history_of is.later) →
-        IsSentNoMore kind front p fate (history_of first) (history_of first ++ history_of is.later) (past_after front first) (events_of is.later)) (sym same)
+        IsSentNoMore numbered kind front p fate (history_of first) (history_of first ++ history_of is.later) (past_after front first) (events_of is.later)) (sym same)
         (λ o so stayed. ended_unsent numbered kind front p first is.later t.was t.tied_all fate fates ends o so stayed.lives stayed.none)
 
 -- the prints of a printer are sound
 pub prints_sound : (numbered : Bool) (kind : LinkKind) (front : List WorldEvent) (desk : Data) (entries : List DeskEntry) (past : List WorldEvent)
-    (run : IsPrinterRun numbered kind front desk entries past) → ArePrintsSound kind front desk entries run.tied.timeline
+    (run : IsPrinterRun numbered kind front desk entries past) → ArePrintsSound numbered kind front desk entries run.tied.timeline
 prints_sound numbered kind front desk entries past run = record {
   in_order = prints_in_order numbered kind front desk entries past run;
   whole = done_prints_whole numbered kind front desk entries past run;

@@ -38,14 +38,14 @@ EachDonePrintIsWhole kind front desk entries timeline =
     → IsExecutedWhole kind desk.scripts front (past_after front first) print (of_print print (run_over so_far desk).begun) (history_of first)
 
 -- after each entry it is so of each print that had ended: none of its lines was sent since then
-abbrev pub EachEndedPrintIsSentNoMore : LinkKind → List WorldEvent → Data → List DeskEntry → Timeline → Type 0
-EachEndedPrintIsSentNoMore kind front desk entries timeline =
+abbrev pub EachEndedPrintIsSentNoMore : Bool → LinkKind → List WorldEvent → Data → List DeskEntry → Timeline → Type 0
+EachEndedPrintIsSentNoMore numbered kind front desk entries timeline =
     (first : Timeline) (so_far : List DeskEntry) (is : IsSoFar entries so_far timeline first) → (print : ℕ) → 0 < print
     → (fate : Fate) → of_print print (run_over so_far desk).ends ≡ fate ∷ []
-    → IsSentNoMore kind front print fate (history_of first) (history_of timeline) (past_after front first) (events_of is.later)
+    → IsSentNoMore numbered kind front print fate (history_of first) (history_of timeline) (past_after front first) (events_of is.later)
 
 -- all three of the prints of a printer
-pub record ArePrintsSound (kind : LinkKind) (front : List WorldEvent) (desk : Data) (entries : List DeskEntry) (timeline : Timeline) : Type 0 where
+pub record ArePrintsSound (numbered : Bool) (kind : LinkKind) (front : List WorldEvent) (desk : Data) (entries : List DeskEntry) (timeline : Timeline) : Type 0 where
   pub in_order : EachPrintIsInOrder kind front desk entries timeline
   pub whole : EachDonePrintIsWhole kind front desk entries timeline
-  pub sent_no_more : EachEndedPrintIsSentNoMore kind front desk entries timeline
+  pub sent_no_more : EachEndedPrintIsSentNoMore numbered kind front desk entries timeline

@@ -2,7 +2,7 @@
 use Rattle.std.proofs.Common.{◌≡◌, ℕ, ◌+◌, Bool, true, false, cond, nat_eq, codes, List, [], ◌∷◌, Option, None, Some, refl, sym, ◌∙◌, ap, subst}
 use Rattle.std.proofs.lemmas.Bool.{false≢true}
 use Rattle.job_desk.specs.Data.{Data, Line, with_script, moment_after}
-use Rattle.job_desk.specs.Pull.{Drawn, draw_in_order, nothing, next_number, keep_number, issue, from_scripts, from_manual, from_poll, poll_is_due, from_probe, probe_is_due, from_file, draw_last, draw_at, is_issued, settle_at, settled, pull_step}
+use Rattle.job_desk.specs.Pull.{Drawn, draw_in_order, nothing, next_number, keep_number, issue, from_scripts, from_manual, from_poll, poll_is_due, from_probe, put_off, probe_is_due, from_file, draw_last, draw_at, is_issued, settle_at, settled, pull_step}
 use Rattle.job_desk.specs.Course.{job_line}
 use Rattle.job_desk.specs.Note.{Noted, after_ending, is_over, end_at, finish, hung_up, fail, ready_at, after_open, note_fact, note_step, with_acked}
 use Rattle.job_desk.specs.declared.state.State.{State}
@@ -62,7 +62,7 @@ stays_poll moment d next h =
 
 stays_probe : (awaited moment : ℕ) (d : Data) → Stays d (from_probe awaited moment d).1
 stays_probe awaited moment d =
-    let asked : Data = record d { probe_at = moment_after moment d.poll_ms } in
+    let asked : Data = put_off moment d in
     choose_pair {X = Option Line} (λ e. Stays d e) (probe_is_due awaited moment d) _ _
     (stays_issue (record { text = codes "M400"; tag = Poll }) d asked (record { phase = refl; limits = refl; stopped = refl })) (stays_same d)
 

@@ -3,7 +3,7 @@ use Rattle.std.proofs.Common.{◌≡◌, ◌⊎◌, inr, ℕ, ◌+◌, Bool, tru
 use Rattle.temp_rules.specs.declared.limits.TooHot.{TooHot}
 use Rattle.job_desk.specs.Data.{Data}
 use Rattle.job_desk.specs.Run.{Manually}
-use Rattle.job_desk.specs.Table.{Answer, ok_answer, wrong_state, most_manual, add_manual, is_stop, stopping, take_manual, last_manual, manual_at}
+use Rattle.job_desk.specs.Table.{Answer, ok_answer, wrong_state, most_manual, add_manual, is_stop, stopping, take_manual, stop_alone, may_stop_closing, manual_at}
 use Rattle.job_desk.specs.declared.state.Refusal.{Refusal}
 use Rattle.job_desk.specs.declared.state.Refusal.TheVariants as refusal
 use Rattle.job_desk.specs.declared.state.State.{State}
@@ -33,19 +33,19 @@ add-leaves lines d r = pick (nat_lt most_manual (length d.manual + length lines)
 take-leaves : (lines : List (List ℕ)) (d : Data) (r : Refusal) → Leaves (take_manual lines d) d r
 take-leaves lines d r = pick (is_stop lines) (ok_answer (stopping lines d)) (add_manual lines d) d r (took d _ r) (add-leaves lines d r)
 
-last-leaves : (lines : List (List ℕ)) (d : Data) (r : Refusal) → Leaves (last_manual lines d) d r
-last-leaves lines d r = pick (is_stop lines && d.ready) (ok_answer (stopping lines d)) (wrong_state d) d r (took d _ r) (λ h. refl)
+alone-leaves : (may : Bool) (lines : List (List ℕ)) (d : Data) (r : Refusal) → Leaves (stop_alone may lines d) d r
+alone-leaves may lines d r = pick (is_stop lines && may) (ok_answer (stopping lines d)) (wrong_state d) d r (took d _ r) (λ h. refl)
 
 manual-leaves : (s : State) (lines : List (List ℕ)) (d : Data) (r : Refusal) → Leaves (manual_at s lines d) d r
 manual-leaves Offline lines d r = λ h. refl
-manual-leaves Connecting lines d r = λ h. refl
+manual-leaves Connecting lines d r = alone-leaves d.linked lines d r
 manual-leaves Operational lines d r = take-leaves lines d r
 manual-leaves Printing lines d r = take-leaves lines d r
 manual-leaves Pausing lines d r = take-leaves lines d r
 manual-leaves Paused lines d r = take-leaves lines d r
 manual-leaves Cancelling lines d r = take-leaves lines d r
 manual-leaves Finishing lines d r = take-leaves lines d r
-manual-leaves Closing lines d r = last-leaves lines d r
+manual-leaves Closing lines d r = alone-leaves (may_stop_closing d) lines d r
 manual-leaves Fault lines d r = λ h. refl
 
 module _ (texts : List (List ℕ)) (k k' : Known) (new : k' ≡ record k { desk = (manual_at k.desk.state texts k.desk).1 }) where

@@ -2,7 +2,7 @@
 use Rattle.std.proofs.Common.{◌≡◌, ℕ, ◌+◌, Bool, true, false, nat_lt, List, length, refl}
 use Rattle.std.specs.Prelude.{◌&&◌}
 use Rattle.job_desk.specs.Data.{Data, File}
-use Rattle.job_desk.specs.Table.{connect_at, disconnect_at, select_at, drop_file_step, is_named, pause_at, resume_at, toggle_at, cancel_at, manual_at, add_manual, take_manual, last_manual, is_stop}
+use Rattle.job_desk.specs.Table.{connect_at, disconnect_at, select_at, drop_file_step, is_named, pause_at, resume_at, toggle_at, cancel_at, manual_at, add_manual, take_manual, stop_alone, may_stop_closing, is_stop}
 use Rattle.octo_session.specs.Data.{SessionData}
 use Rattle.octo_house.specs.Facing.{IsApart}
 use Rattle.job_desk.specs.declared.state.State.{State}
@@ -117,20 +117,20 @@ take-if lines d false is = rw is (add-stays lines d)
 take-stays : (lines : List (List ℕ)) (d : Data) → Stays d (take_manual lines d).1
 take-stays lines d = take-if lines d (is_stop lines) refl
 
-last-if : (lines : List (List ℕ)) (d : Data) (b : Bool) → (is_stop lines && d.ready) ≡ b → Stays d (last_manual lines d).1
-last-if lines d true is = rw is (same d)
-last-if lines d false is = rw is (same d)
+alone-if : (may : Bool) (lines : List (List ℕ)) (d : Data) (b : Bool) → (is_stop lines && may) ≡ b → Stays d (stop_alone may lines d).1
+alone-if may lines d true is = rw is (same d)
+alone-if may lines d false is = rw is (same d)
 
 pub manual-stays : (s : State) (lines : List (List ℕ)) (d : Data) → Stays d (manual_at s lines d).1
 manual-stays Offline lines d = same d
-manual-stays Connecting lines d = same d
+manual-stays Connecting lines d = alone-if d.linked lines d (is_stop lines && d.linked) refl
 manual-stays Operational lines d = take-stays lines d
 manual-stays Printing lines d = take-stays lines d
 manual-stays Pausing lines d = take-stays lines d
 manual-stays Paused lines d = take-stays lines d
 manual-stays Cancelling lines d = take-stays lines d
 manual-stays Finishing lines d = take-stays lines d
-manual-stays Closing lines d = last-if lines d (is_stop lines && d.ready) refl
+manual-stays Closing lines d = alone-if (may_stop_closing d) lines d (is_stop lines && may_stop_closing d) refl
 manual-stays Fault lines d = same d
 
 drop-if : (name : List ℕ) (d : Data) (b a : Bool) → is_named name d.file ≡ b → d.active ≡ a → Stays d (drop_file_step name d).1

@@ -9,7 +9,7 @@ use Rattle.job_desk.specs.Data.{Data, File, Line, texts_at, tagged, script_lines
 use Rattle.job_desk.specs.Endings.{has_print}
 use Rattle.job_desk.specs.Note.{Noted, is_over, end_at, after_ending, after_open, ready_at, leave, fail, note_fact, note_step, with_acked, hung_up}
 use Rattle.job_desk.specs.Pull.{is_issued, settle_at, settled}
-use Rattle.job_desk.specs.Table.{connect_at, disconnect_at, closing, select_at, is_named, drop_file_step, printing, start_checked, start_file, start_at, restart_at, pause_at, resume_at, toggle_at, cancelling, cancel_at, add_manual, manual_at, take_manual, is_stop, stopping}
+use Rattle.job_desk.specs.Table.{connect_at, disconnect_at, closing, select_at, is_named, drop_file_step, printing, start_checked, start_file, start_at, restart_at, pause_at, resume_at, toggle_at, cancelling, cancel_at, add_manual, manual_at, take_manual, is_stop, may_stop_closing, stopping}
 use Rattle.job_desk.specs.declared.link_fact.LinkFact.{LinkFact}
 use Rattle.job_desk.specs.declared.link_fact.LinkFact.TheVariants as fact
 use Rattle.job_desk.specs.declared.state.Point.{Point}
@@ -219,7 +219,8 @@ module _ (limits : Limits) where
   cool_manual Paused texts d cool h = cool_takes texts d cool h
   cool_manual Cancelling texts d cool h = cool_takes texts d cool h
   cool_manual Finishing texts d cool h = cool_takes texts d cool h
-  cool_manual Closing texts d cool h = choose_cool (is_stop texts && d.ready) _ _ (cool_stopping texts d cool h) h
+  cool_manual Connecting texts d cool h = choose_cool (is_stop texts && d.linked) _ _ (cool_stopping texts d cool h) h
+  cool_manual Closing texts d cool h = choose_cool (is_stop texts && may_stop_closing d) _ _ (cool_stopping texts d cool h) h
   cool_manual _ texts d cool h = h
 
   cool_finishing : (s : State) (d : Data) → d.state ≡ s → Cool limits d → Cool limits (settle_at s d)

@@ -4,7 +4,7 @@ use Rattle.std.specs.List.{AllByRecursion}
 use Rattle.temp_rules.specs.declared.limits.Limits.{Limits}
 use Rattle.job_desk.specs.Data.{Data, Line, commands_of, moment_after}
 use Rattle.job_desk.specs.Endings.{has_print}
-use Rattle.job_desk.specs.Pull.{Drawn, nothing, keep_number, next_number, issue, from_scripts, from_manual, poll_is_due, from_poll, probe_is_due, from_probe, from_file, draw_in_order, draw_at, draw_last}
+use Rattle.job_desk.specs.Pull.{Drawn, nothing, keep_number, next_number, issue, from_scripts, from_manual, poll_is_due, from_poll, probe_is_due, from_probe, put_off, from_file, draw_in_order, draw_at, draw_last}
 use Rattle.job_desk.specs.Run.{DeskCall, Connect, Disconnect, Select, DropFile, Start, Restart, Pause, Resume, Toggle, Cancel, Manually, Pull, Note}
 use Rattle.job_desk.specs.declared.state.State.{State}
 use Rattle.job_desk.specs.declared.state.State.TheVariants.{Operational, Printing, Pausing, Paused, Cancelling, Finishing, Closing}
@@ -80,7 +80,7 @@ module _ (limits : Limits) where
 
   draws_probe : (awaited moment : ℕ) (d : Data) → Cool limits d → DrawsCool (from_probe awaited moment d)
   draws_probe awaited moment d h =
-      let asked : Data = record d { probe_at = moment_after moment d.poll_ms } in
+      let asked : Data = put_off moment d in
       choose_drawn (probe_is_due awaited moment d) _ (nothing d) (issues (record {
         text = codes "M400";
         tag = Poll;

@@ -7,7 +7,7 @@ use Rattle.std.specs.Prelude.{◌&&◌}
 use Rattle.job_desk.specs.Data.{Data, File}
 use Rattle.job_desk.specs.Endings.{has_print, IsActive}
 use Rattle.job_desk.specs.Run.{DeskCall, Connect, Disconnect, Select, DropFile, Start, Restart, Pause, Resume, Toggle, Cancel, Manually, Pull, Note}
-use Rattle.job_desk.specs.Table.{ok_answer, connect_at, disconnect_at, select_at, is_named, drop_file_step, printing, start_checked, start_file, start_at, restart_at, pause_at, resume_at, toggle_at, cancel_at, add_manual, manual_at, take_manual, is_stop, stopping}
+use Rattle.job_desk.specs.Table.{ok_answer, connect_at, disconnect_at, select_at, is_named, drop_file_step, printing, start_checked, start_file, start_at, restart_at, pause_at, resume_at, toggle_at, cancel_at, add_manual, manual_at, take_manual, is_stop, may_stop_closing, stopping}
 use Rattle.job_desk.specs.declared.state.Refusal.TheVariants as refusal
 use Rattle.job_desk.specs.declared.state.State.{State}
 use Rattle.job_desk.specs.declared.state.State.TheVariants.{Offline, Connecting, Operational, Printing, Pausing, Paused, Cancelling, Finishing, Closing, Fault}
@@ -109,7 +109,8 @@ filed_manually Pausing lines d f = filed_takes lines d f
 filed_manually Paused lines d f = filed_takes lines d f
 filed_manually Cancelling lines d f = filed_takes lines d f
 filed_manually Finishing lines d f = filed_takes lines d f
-filed_manually Closing lines d f = choose_pair (λ e. IsFiled e) (is_stop lines && d.ready) _ _ (filed_stopping lines d f) f
+filed_manually Connecting lines d f = choose_pair (λ e. IsFiled e) (is_stop lines && d.linked) _ _ (filed_stopping lines d f) f
+filed_manually Closing lines d f = choose_pair (λ e. IsFiled e) (is_stop lines && may_stop_closing d) _ _ (filed_stopping lines d f) f
 filed_manually _ lines d f = f
 
 pub filed_call : (call : DeskCall) (d : Data) → IsFiled d → IsFiled (desk_after call d)

@@ -5,10 +5,10 @@ use Rattle.temp_rules.specs.declared.job.HotLine.{HotLine}
 use Rattle.std.specs.Prelude.{◌&&◌}
 use Rattle.job_desk.specs.Data.{Data, File, Line, with_script, moment_after}
 use Rattle.job_desk.specs.Note.{Noted, after_ending, is_over, end_at, finish, fail, ready_at, after_open, note_fact, note_step, with_acked, hung_up}
-use Rattle.job_desk.specs.Pull.{Drawn, draw_in_order, nothing, next_number, keep_number, issue, from_scripts, from_manual, from_poll, poll_is_due, from_probe, probe_is_due, from_file, draw_at, is_issued, settle_at, pull_step, draw_last}
+use Rattle.job_desk.specs.Pull.{Drawn, draw_in_order, nothing, next_number, keep_number, issue, from_scripts, from_manual, from_poll, poll_is_due, from_probe, put_off, probe_is_due, from_file, draw_at, is_issued, settle_at, pull_step, draw_last}
 use Rattle.job_desk.specs.Course.{job_line}
 use Rattle.job_desk.specs.Run.{DeskCall, Connect, Disconnect, Select, DropFile, Start, Restart, Pause, Resume, Toggle, Cancel, Manually, Pull, Note}
-use Rattle.job_desk.specs.Table.{connect_at, disconnect_at, select_at, is_named, drop_file_step, start_checked, start_file, start_at, restart_at, pause_at, resume_at, toggle_at, cancel_at, add_manual, manual_at, take_manual, is_stop}
+use Rattle.job_desk.specs.Table.{connect_at, disconnect_at, select_at, is_named, drop_file_step, start_checked, start_file, start_at, restart_at, pause_at, resume_at, toggle_at, cancel_at, add_manual, manual_at, take_manual, is_stop, may_stop_closing}
 use Rattle.job_desk.specs.declared.link_fact.LinkFact.{LinkFact}
 use Rattle.job_desk.specs.declared.link_fact.LinkFact.TheVariants as fact
 use Rattle.job_desk.specs.declared.state.Point.TheVariants as point
@@ -51,7 +51,7 @@ file_poll moment d next h =
 
 file_probe : (awaited moment : ℕ) (d : Data) → Same d (from_probe awaited moment d).1
 file_probe awaited moment d =
-    let asked : Data = record d { probe_at = moment_after moment d.poll_ms } in
+    let asked : Data = put_off moment d in
     choose_pair (λ e. Same d e) (probe_is_due awaited moment d) _ (nothing d) (file_issue (record { text = codes "M400"; tag = Poll }) d asked refl) refl
 
 file_command : (text : Option (List ℕ)) (d : Data) → Same d (from_file text d).1
@@ -186,7 +186,8 @@ file_manually Pausing lines d = file_takes lines d
 file_manually Paused lines d = file_takes lines d
 file_manually Cancelling lines d = file_takes lines d
 file_manually Finishing lines d = file_takes lines d
-file_manually Closing lines d = choose_pair (λ e. Same d e) (is_stop lines && d.ready) _ _ refl refl
+file_manually Connecting lines d = choose_pair (λ e. Same d e) (is_stop lines && d.linked) _ _ refl refl
+file_manually Closing lines d = choose_pair (λ e. Same d e) (is_stop lines && may_stop_closing d) _ _ refl refl
 file_manually _ lines d = refl
 
 file_select : (s : State) (file : File) (d : Data) (f : File) → (select_at s file d).1.file ≡ Some f → (d.file ≡ Some f) ⊎ (Select file ≡ Select f)

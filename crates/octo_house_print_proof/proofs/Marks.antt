@@ -4,7 +4,7 @@ use Rattle.temp_rules.specs.declared.job.HotLine.{HotLine}
 use Rattle.temp_rules.specs.Hot.{first_hot_of}
 use Rattle.std.specs.Prelude.{◌&&◌}
 use Rattle.job_desk.specs.Data.{Data, File, Line}
-use Rattle.job_desk.specs.Table.{connect_at, disconnect_at, select_at, drop_file_step, is_named, start_checked, start_file, start_at, restart_at, printing, pause_at, resume_at, toggle_at, cancel_at, manual_at, add_manual, take_manual, is_stop, stopping}
+use Rattle.job_desk.specs.Table.{connect_at, disconnect_at, select_at, drop_file_step, is_named, start_checked, start_file, start_at, restart_at, printing, pause_at, resume_at, toggle_at, cancel_at, manual_at, add_manual, take_manual, is_stop, may_stop_closing, stopping}
 use Rattle.job_desk.specs.Run.{print_lines, DeskCall, Connect, Disconnect, Select, DropFile, Start, Restart, Pause, Resume, Toggle, Cancel, Manually, Pull, Note, MayCall}
 use Rattle.job_desk.specs.declared.state.State.{State}
 use Rattle.job_desk.specs.declared.state.State.TheVariants.{Offline, Connecting, Operational, Printing, Pausing, Paused, Cancelling, Finishing, Closing, Fault}
@@ -94,7 +94,8 @@ same-manual Pausing lines d = same-takes lines d
 same-manual Paused lines d = same-takes lines d
 same-manual Cancelling lines d = same-takes lines d
 same-manual Finishing lines d = same-takes lines d
-same-manual Closing lines d = choose_pair (λ e. IsSame d e) (is_stop lines && d.ready) _ _ (same-stopping lines d) (same d)
+same-manual Connecting lines d = choose_pair (λ e. IsSame d e) (is_stop lines && d.linked) _ _ (same-stopping lines d) (same d)
+same-manual Closing lines d = choose_pair (λ e. IsSame d e) (is_stop lines && may_stop_closing d) _ _ (same-stopping lines d) (same d)
 same-manual _ lines d = same d
 
 -- what a print's numbers say of the session's lines

@@ -3,7 +3,7 @@ use Rattle.std.proofs.Common.{◌≡◌, ◌⊎◌, inl, inr, ℕ, ◌+◌, ◌<
 use Rattle.std.proofs.lemmas.List.{length-append}
 use Rattle.std.proofs.lemmas.Bool.Decides.{nat_tests}
 use Rattle.job_desk.specs.Data.{Data, Line, with_script, moment_after}
-use Rattle.job_desk.specs.Pull.{Drawn, draw_in_order, nothing, next_number, keep_number, issue, from_scripts, from_manual, from_poll, poll_is_due, from_probe, probe_is_due, from_file, draw_at, is_issued, settle_at, settled, pull_step, draw_last}
+use Rattle.job_desk.specs.Pull.{Drawn, draw_in_order, nothing, next_number, keep_number, issue, from_scripts, from_manual, from_poll, poll_is_due, from_probe, put_off, probe_is_due, from_file, draw_at, is_issued, settle_at, settled, pull_step, draw_last}
 use Rattle.job_desk.specs.Course.{job_line}
 use Rattle.job_desk.specs.Run.{is_of, print_lines}
 use Rattle.job_desk.specs.declared.state.State.{State}
@@ -119,7 +119,7 @@ module _ (p : ℕ) (positive : nat_eq 0 p ≡ false) where
 
   draws_probe : (awaited moment : ℕ) (d : Data) → Draws d (from_probe awaited moment d)
   draws_probe awaited moment d =
-      let asked : Data = record d { probe_at = moment_after moment d.poll_ms } in
+      let asked : Data = put_off moment d in
       choose_drawn d (probe_is_due awaited moment d) (issue (record { text = codes "M400"; tag = Poll }) asked) (nothing d)
       (draws_issue (record { text = codes "M400"; tag = Poll }) d asked (near d asked refl refl refl refl refl refl) (λ is none. (none, refl)))
       (draws_none d)

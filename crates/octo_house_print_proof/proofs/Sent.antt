@@ -67,7 +67,7 @@ text_at [] i text found = absurd (cc found)
 text_at (first ∷ lines) zero text found = record { line = first; its = refl; text_is = (let same : first.text ≡ text = cc in same) }
 text_at (first ∷ lines) (suc i) text found = (let rest = text_at lines i text found in record { line = rest.line; its = rest.its; text_is = rest.text_is })
 
-module _ (p a : ℕ) (lines : List Line) (none : print_lines p (drop a lines) ≡ []) where
+module _ (numbered : Bool) (p a : ℕ) (lines : List Line) (none : print_lines p (drop a lines) ≡ []) where
   line_other : (bytes : List ℕ) → IsLineAbove (texts_in lines) a bytes → IsLineOfOther p lines bytes
   line_other bytes l =
       let at : IsTextAt lines (l.place - 1) l.text = text_at lines (l.place - 1) l.text l.its.found in
@@ -81,26 +81,26 @@ module _ (p a : ℕ) (lines : List Line) (none : print_lines p (drop a lines) �
         other = other_past p a lines (l.place - 1) at.line (omega (arith, l.above)) at.its none;
       }
 
-  event_other : (event : WorldEvent) → IsAbove (texts_in lines) a event → IsSentOther p lines event
+  event_other : (event : WorldEvent) → IsAbove numbered (texts_in lines) a event → IsSentOther numbered p lines event
   event_other (Send line) (inl hello) = inl hello
   event_other (Send line) (inr (inl l)) = inr (inl (line_other line.items l))
   event_other (Send line) (inr (inr failing)) = inr (inr failing)
   event_other _ is = tt
 
-  events_other : (events : List WorldEvent) → AreAbove (texts_in lines) a events → AreSentOther p lines events
+  events_other : (events : List WorldEvent) → AreAbove numbered (texts_in lines) a events → AreSentOther numbered p lines events
   events_other [] are = tt
   events_other (event ∷ events) are = (event_other event are.0, events_other events are.1)
 
 -- if nothing is sent
-event_unsent : (p : ℕ) (lines : List Line) (event : WorldEvent) → is_send event ≡ false → IsSentOther p lines event
-event_unsent p lines (Send line) none = absurd (cc none)
-event_unsent p lines _ none = tt
+event_unsent : (numbered : Bool) (p : ℕ) (lines : List Line) (event : WorldEvent) → is_send event ≡ false → IsSentOther numbered p lines event
+event_unsent numbered p lines (Send line) none = absurd (cc none)
+event_unsent numbered p lines _ none = tt
 
-events_unsent : (p : ℕ) (lines : List Line) (events : List WorldEvent) → list_any is_send events ≡ false → AreSentOther p lines events
-events_unsent p lines [] none = tt
-events_unsent p lines (event ∷ events) none =
+events_unsent : (numbered : Bool) (p : ℕ) (lines : List Line) (events : List WorldEvent) → list_any is_send events ≡ false → AreSentOther numbered p lines events
+events_unsent numbered p lines [] none = tt
+events_unsent numbered p lines (event ∷ events) none =
     let parts = or_parts (is_send event) (list_any is_send events) none in
-    (event_unsent p lines event parts.0, events_unsent p lines events parts.1)
+    (event_unsent numbered p lines event parts.0, events_unsent numbered p lines events parts.1)
 
 -- how far a print's lines go in the session that it lives in
 pub record IsPast (p : ℕ) (first : History) (home : ℕ) : Type 0 where
@@ -137,44 +137,44 @@ module _ (numbered : Bool) (kind : LinkKind) (front : List WorldEvent) (p : ℕ)
   since = events_of more
 
   -- a session that isn't open
-  shut : (n : ℕ) → is_open now ≡ false → AreSentOther p (issued_of n whole) (till 0 since)
-  shut n closed = events_unsent p (issued_of n whole) (till 0 since) (was.unsent closed)
+  shut : (n : ℕ) → is_open now ≡ false → AreSentOther numbered p (issued_of n whole) (till 0 since)
+  shut n closed = events_unsent numbered p (issued_of n whole) (till 0 since) (was.unsent closed)
 
   -- the last session, if none of its lines after those acknowledged is the print's
-  last : (n : ℕ) → sessions now ≡ n → print_lines p (drop (acked_in n now) (issued_of n whole)) ≡ [] → AreSentOther p (issued_of n whole) (till 0 since)
+  last : (n : ℕ) → sessions now ≡ n → print_lines p (drop (acked_in n now) (issued_of n whole)) ≡ [] → AreSentOther numbered p (issued_of n whole) (till 0 since)
   last zero is none = shut zero (shut_after now is)
   last (suc n) is none =
-      let above : AreAbove (session_texts (sessions now) whole) (acked_in (sessions now) now) (till 0 since) =
+      let above : AreAbove numbered (session_texts (sessions now) whole) (acked_in (sessions now) now) (till 0 since) =
       later_above numbered kind front now (history_of more) so_far since (omega (arith, is)) tied was.tied
       in
-      let there : AreAbove (texts_in (issued_of (suc n) whole)) (acked_in (suc n) now) (till 0 since) =
-      subst (λ (k : ℕ). AreAbove (session_texts k whole) (acked_in k now) (till 0 since)) is above
+      let there : AreAbove numbered (texts_in (issued_of (suc n) whole)) (acked_in (suc n) now) (till 0 since) =
+      subst (λ (k : ℕ). AreAbove numbered (session_texts k whole) (acked_in k now) (till 0 since)) is above
       in
-      events_other p (acked_in (suc n) now) (issued_of (suc n) whole) none (till 0 since) there
+      events_other numbered p (acked_in (suc n) now) (issued_of (suc n) whole) none (till 0 since) there
 
   by : (home : ℕ) → Place home (sessions now) → home ≤ sessions now → LivesIn p whole home → (so : IsPast p now home) →
-      print_lines p (drop so.reach (issued_of home whole)) ≡ [] → AreSentOther p (issued_of (sessions now) whole) (till 0 since)
+      print_lines p (drop so.reach (issued_of home whole)) ≡ [] → AreSentOther numbered p (issued_of (sessions now) whole) (till 0 since)
   by home (earlier below) within l so none =
       last (sessions now) refl
       (none_dropped p (acked_in (sessions now) now) (issued_of (sessions now) whole) (l.alone (sessions now) (λ same. absurd (omega (arith, same, below)))))
   by home (later above) within l so none = absurd (omega (arith, above, within))
-  by home (here same) within l so none = subst (λ (n : ℕ). AreSentOther p (issued_of n whole) (till 0 since)) same (how so.how)
+  by home (here same) within l so none = subst (λ (n : ℕ). AreSentOther numbered p (issued_of n whole) (till 0 since)) same (how so.how)
     where
-      how : ((so.reach ≡ acked_in home now)) ⊎ ((home < sessions now) ⊎ (is_open now ≡ false)) → AreSentOther p (issued_of home whole) (till 0 since)
+      how : ((so.reach ≡ acked_in home now)) ⊎ ((home < sessions now) ⊎ (is_open now ≡ false)) → AreSentOther numbered p (issued_of home whole) (till 0 since)
       how (inl acked) = last home (sym same) (subst (λ (b : ℕ). print_lines p (drop b (issued_of home whole)) ≡ []) acked none)
       how (inr (inl below)) = absurd (omega (arith, below, same))
       how (inr (inr closed)) = shut home closed
 
   -- a session of which no line is the print's
   later_session : (n : ℕ) → 1 ≤ n → n ≤ sessions whole → print_lines p (issued_of n whole) ≡ [] →
-      AreSentOther p (issued_of n whole) (events_of_session (opens front + n) (so_far ++ since))
+      AreSentOther numbered p (issued_of n whole) (events_of_session (opens front + n) (so_far ++ since))
   later_session n some most none =
-      events_other p 0 (issued_of n whole) none (events_of_session (opens front + n) (so_far ++ since))
+      events_other numbered p 0 (issued_of n whole) none (events_of_session (opens front + n) (so_far ++ since))
       (issued_above numbered kind (session_texts n whole) (acked_in n whole) (so_far ++ since) (opens front + n) (tied.each n some most))
 
   -- none of a print's lines, if it had ended then, and none was issued after
   pub ended_unsent : (fate : Fate) (fates : List Fate) → fates ≡ fate ∷ [] → (o : IsEnded p now fates) → (so : IsPast p now o.home) → LivesIn p whole o.home →
-      print_lines p (drop so.reach (issued_of o.home whole)) ≡ [] → IsSentNoMore kind front p fate now whole so_far since
+      print_lines p (drop so.reach (issued_of o.home whole)) ≡ [] → IsSentNoMore numbered kind front p fate now whole so_far since
   ended_unsent fate fates ends o so stays none = record {
     home = o.home;
     within = o.within;
@@ -186,7 +186,7 @@ module _ (numbered : Bool) (kind : LinkKind) (front : List WorldEvent) (p : ℕ)
   }
 
 pub sent_no_more : (numbered : Bool) (kind : LinkKind) (front : List WorldEvent) (s : Standing) (h : History) (past : List WorldEvent) (run : IsRun numbered kind front s h past) →
-    EachEndedIsSentNoMore kind front s run.tied.timeline
+    EachEndedIsSentNoMore numbered kind front s run.tied.timeline
 sent_no_more numbered kind front s h past run first more is p some fate ends =
     let t = run_then numbered kind front s h past run first more is in
     let now : History = history_of first in
@@ -198,7 +198,7 @@ sent_no_more numbered kind front s h past run first more is p some fate ends =
     let stays = stays_in scripts s.known.desk.limits s.known.desk.poll_ms s.known.desk.numbered p some s run.begins.new now (history_of more) t.legal_all t.short_all
     o.fate o.home so.reach o.within o.is o.lives so.none
     in
-    subst (λ (x : History). IsSentNoMore kind front p fate now x (past_after front first) (events_of more)) (sym (ap history_of is ∙ history_of-append first more))
+    subst (λ (x : History). IsSentNoMore numbered kind front p fate now x (past_after front first) (events_of more)) (sym (ap history_of is ∙ history_of-append first more))
     (ended_unsent numbered kind front p first more t.was t.tied_all fate _ ends o so stays.0 stays.1)
 
 pub true_end : (numbered : Bool) (kind : LinkKind) (front : List WorldEvent) (s : Standing) (h : History) (past : List WorldEvent) (run : IsRun numbered kind front s h past) →

@@ -3,7 +3,7 @@ use Rattle.std.proofs.Common.{length, ◌≡◌, ◌⊎◌, inl, inr, ℕ, zero,
 use Rattle.std.specs.List.{list_any, list_all}
 use Rattle.job_desk.specs.declared.link_fact.LinkFact.{LinkFact}
 use Rattle.job_desk.specs.declared.link_fact.LinkFact.TheVariants as fact
-use Rattle.printer_model.specs.World.{is_free, is_send}
+use Rattle.printer_model.specs.World.{WorldData, is_free, is_send, apply, world_from}
 use Rattle.printer_model.specs.Executed.{opens, till}
 use Rattle.printer_model.specs.declared.event.WorldEvent.{WorldEvent}
 use Rattle.printer_model.specs.declared.event.WorldEvent.TheVariants.{Opened, Closed}
@@ -12,12 +12,15 @@ use Rattle.printer_model.proofs.Starts.{opens-free, runs-free}
 use Rattle.printer_link.specs.Link.{LinkKind, IsDial, world_in}
 use Rattle.printer_link.specs.Suits.{Suits}
 use Rattle.send_window.specs.Data.{SenderData, IsSound, most_lines}
+use Rattle.send_window.specs.Session.{HoldsIssued}
 use Rattle.octo_session.specs.Data.{SessionData, doing}
 use Rattle.octo_session.specs.Found.{Got, unasked, may_issue, can_find}
 use Rattle.octo_session.specs.declared.found.Doing.TheVariants.{Dialling, UsingLink}
-use Rattle.octo_session_line_proof.specs.Linked.{IsOpened}
+use Rattle.octo_session_line_proof.specs.Linked.{start_of, IsOpened}
+use Rattle.octo_session_line_proof.specs.Wires.{Start}
 use Rattle.octo_session.specs.Tied.{IsTied}
 use Rattle.octo_session_line_proof.proofs.Ends.{idle_turn}
+use Rattle.octo_session_line_proof.proofs.Fitting.{fits_sound, fits_holds}
 use Rattle.octo_session_line_proof.proofs.Turned.{IsTurned, talks_up, opens_dialling, idle_steps, down_after}
 use Rattle.octo_session_line_proof.proofs.Turning.{turn_kind, going_on, is_opened_fact}
 use Rattle.octo_session_line_proof.proofs.Turns.{none_opened, dial_of, made_now}
@@ -55,8 +58,11 @@ pub record Leaves (numbered : Bool) (kind : LinkKind) (front : List WorldEvent) 
 pub few_opened : (kind : LinkKind) (issued : List (List ℕ)) (x : SessionData) (past : List WorldEvent) → IsOpened kind issued x past
     → length issued ≤ most_lines
 few_opened kind issued x past o =
-    let n = o.traced.meets.numbers in
-    omega (arith, n.holds.count, n.sound.few)
+    let start : Start = start_of kind o.front x.sender.numbered o.rest in
+    let w : WorldData = world_from (apply (world_in kind o.front) (Opened o.last)) o.rest in
+    let holds : HoldsIssued issued x.sender = fits_holds start issued x.sender w o.traced.meets in
+    let sound : IsSound x.sender = fits_sound start issued x.sender w o.traced.meets in
+    omega (arith, holds.count, sound.few)
 
 module _ (moment : ℕ) (numbered : Bool) (kind : LinkKind) (old new : SessionData) (got : Got) (found : LinkFact) (issued : List (List ℕ)) where
   -- the sessions before the last one
@@ -140,7 +146,9 @@ module _ (moment : ℕ) (numbered : Bool) (kind : LinkKind) (old new : SessionDa
       sound_at : (n : ℕ) (texts : List (List ℕ)) (acked : ℕ) (past : List WorldEvent) (x : SessionData) → IsCurrent numbered kind n texts acked past x →
           IsSound x.sender
       sound_at zero texts acked past x u = u.sound
-      sound_at (suc n) texts acked past x c = c.0.traced.meets.numbers.sound
+      sound_at (suc n) texts acked past x c =
+          fits_sound (start_of kind c.0.front x.sender.numbered c.0.rest) texts x.sender (world_from (apply (world_in kind c.0.front) (Opened c.0.last)) c.0.rest)
+          c.0.traced.meets
 
       suits_at : (n : ℕ) (texts : List (List ℕ)) (acked : ℕ) (past : List WorldEvent) (x : SessionData) → IsCurrent numbered kind n texts acked past x
           → Suits x.sender.numbered kind.oks

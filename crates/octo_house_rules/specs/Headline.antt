@@ -24,6 +24,6 @@ pub record KeepsPrints (numbered : Bool) (kind : LinkKind) (front : List WorldEv
   pub record_true : EachDoneRecordIsTrue kind front s tied.timeline
   pub shown_true : EachDoneShownIsTrue kind front s tied.timeline
   -- once a print has ended, no line of it is sent
-  pub sent_no_more : EachEndedIsSentNoMore kind front s tied.timeline
+  pub sent_no_more : EachEndedIsSentNoMore numbered kind front s tied.timeline
   -- no session ends without its cause
   pub end_true : EachEndIsTrue numbered kind front tied.timeline

@@ -4,7 +4,7 @@ use Rattle.job_desk.specs.Course.{Done, Course}
 use Rattle.job_desk.specs.Data.{ScriptTexts, Data, Line, new_desk}
 use Rattle.job_desk.specs.Run.{Fate, Finished, is_of, print_lines, of_print}
 use Rattle.marlin_frame.specs.Frame.{frame_of, fails}
-use Rattle.marlin_frame.specs.Numbering.{wire_number, hello_frame}
+use Rattle.marlin_frame.specs.Numbering.{wire_number}
 use Rattle.printer_model.specs.Executed.{opens, till}
 use Rattle.printer_model.specs.Exchanged.{events_of_session}
 use Rattle.printer_model.specs.declared.event.WorldEvent.{WorldEvent}
@@ -24,6 +24,7 @@ use Rattle.octo_house_rules.specs.Issued.{issued_of, trace}
 use Rattle.octo_house_rules.specs.Legal.{Standing, after_all}
 use Rattle.octo_house_rules.specs.Scripts.{run_in}
 use Rattle.octo_session.specs.Causes.{IsEndCaused}
+use Rattle.octo_session.specs.Sends.{IsHello}
 use Rattle.send_window.specs.declared.session_end.SessionEnd.{SessionEnd}
 use Rattle.octo_house_rules.specs.Sessions.{sessions, acked_in, is_open, last_end}
 use Rattle.octo_house_rules.specs.Timeline.{Entered, Timeline, history_of, events_of, past_after}
@@ -113,19 +114,19 @@ pub record IsLineOfOther (print : ℕ) (lines : List Line) (bytes : List ℕ) : 
   pub framed : bytes ≡ frame_of (wire_number (place + 1)) line.text
   pub other : is_of print line.tag ≡ false
 
--- if an event is a line that the host sent, it is the hello, such a line, or one that failed
-abbrev pub IsSentOther : ℕ → List Line → WorldEvent → Type 0
-IsSentOther print lines (Send line) = (line.items ≡ hello_frame)
+-- if an event is a line that the host sent, it is a hello, such a line, or one that failed; by whether `ok`s count by their numbers
+abbrev pub IsSentOther : Bool → ℕ → List Line → WorldEvent → Type 0
+IsSentOther numbered print lines (Send line) = IsHello numbered line.items
     ⊎ (IsLineOfOther print lines line.items ⊎ (fails line.items ≡ true))
-IsSentOther print lines _ = Unit {0}
+IsSentOther numbered print lines _ = Unit {0}
 
 -- each of these events is so
-abbrev pub AreSentOther : ℕ → List Line → List WorldEvent → Type 0
-AreSentOther print lines [] = Unit {0}
-AreSentOther print lines (event ∷ events) = IsSentOther print lines event × AreSentOther print lines events
+abbrev pub AreSentOther : Bool → ℕ → List Line → List WorldEvent → Type 0
+AreSentOther numbered print lines [] = Unit {0}
+AreSentOther numbered print lines (event ∷ events) = IsSentOther numbered print lines event × AreSentOther numbered print lines events
 
 -- no line of a print that ended so was sent since the history had come so far, when the link had recorded this
-pub record IsSentNoMore (kind : LinkKind) (front : List WorldEvent) (print : ℕ) (fate : Fate) (first history : History)
+pub record IsSentNoMore (numbered : Bool) (kind : LinkKind) (front : List WorldEvent) (print : ℕ) (fate : Fate) (first history : History)
     (so_far since : List WorldEvent) : Type 0 where
   pub home : ℕ
   pub within : home ≤ sessions first
@@ -135,17 +136,17 @@ pub record IsSentNoMore (kind : LinkKind) (front : List WorldEvent) (print : ℕ
   -- and the link was down, if it was closed
   pub down : 1 ≤ home → is_open first ≡ false → (world_in kind so_far).linked ≡ false
   -- only other lines were sent since then in the session that was the last one
-  pub none : AreSentOther print (issued_of (sessions first) history) (till 0 since)
+  pub none : AreSentOther numbered print (issued_of (sessions first) history) (till 0 since)
   -- and in each later one
   pub never : (session : ℕ) → sessions first < session → session ≤ sessions history
-      → AreSentOther print (issued_of session history) (events_of_session (opens front + session) (so_far ++ since))
+      → AreSentOther numbered print (issued_of session history) (events_of_session (opens front + session) (so_far ++ since))
 
 -- after each entry so it is of each print that had ended then
-abbrev pub EachEndedIsSentNoMore : LinkKind → List WorldEvent → Standing → Timeline → Type 0
-EachEndedIsSentNoMore kind front s timeline =
+abbrev pub EachEndedIsSentNoMore : Bool → LinkKind → List WorldEvent → Standing → Timeline → Type 0
+EachEndedIsSentNoMore numbered kind front s timeline =
     (first later : Timeline) → timeline ≡ first ++ later → (print : ℕ) → 0 < print
     → (fate : Fate) → of_print print (run_in (history_of first) s).ends ≡ fate ∷ []
-    → IsSentNoMore kind front print fate (history_of first) (history_of timeline) (past_after front first) (events_of later)
+    → IsSentNoMore numbered kind front print fate (history_of first) (history_of timeline) (past_after front first) (events_of later)
 
 -- the end of a session that an entry notes had a cause that the link's history showed then, for each entry: a session never ends
 -- for a Resend of a line after the next one to issue, nor for an `ok` of another line; for a Resend of an acknowledged line only if

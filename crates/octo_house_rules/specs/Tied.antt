@@ -16,7 +16,7 @@ use Rattle.octo_house_rules.specs.Recorded.{WhileRecorded}
 -- Session by session a history is tied to what happened on its link since an earlier history of the link: what the printer
 -- executed are the first of the lines that the history says were issued, in order and each once; the acknowledged lines
 -- are counted over the received replies, by whether `ok`s count by their numbers, and all of them were executed; each line that
--- was sent is the hello or an issued line above those acknowledged; and the link is up exactly if the history says that a session
+-- was sent is a hello or an issued line above those acknowledged; and the link is up exactly if the history says that a session
 -- is open.
 pub record Tied (numbered : Bool) (kind : LinkKind) (front : List WorldEvent) (history : History) (past : List WorldEvent) : Type 0 where
   -- the link was made once for each session

@@ -1,5 +1,5 @@
 -- A turn with a note leads a host on.
-use Rattle.std.proofs.Common.{◌≡◌, ◌⊎◌, inl, inr, ℕ, ◌-◌, ◌*◌, ◌<◌, ◌≤◌, Bool, true, false, nat_lt, min, if◌then◌else◌, List, Option, None, Some, refl, sym, ap, subst, ◌∙◌, arith}
+use Rattle.std.proofs.Common.{◌≡◌, ◌+◌, ◌⊎◌, inl, inr, ℕ, ◌-◌, ◌*◌, ◌<◌, ◌≤◌, Bool, true, false, nat_lt, min, if◌then◌else◌, List, Option, None, Some, refl, sym, ap, subst, ◌∙◌, arith}
 use Rattle.std.proofs.lemmas.Bool.Decides.{nat_tests}
 use Rattle.octo_keeper.specs.declared.shelf.ShelfFile.{ShelfFile}
 use Rattle.print_queue.specs.declared.ending.Ending.{Ending}
@@ -152,7 +152,7 @@ abbrev room_by : ℕ → ℕ → ℕ → ℕ
 room_by window issued acked = min (window - (issued - acked)) (most_lines - issued)
 
 room_open : (ended : Option SessionEnd) (ready : Bool) (sender : SenderData) → ended ≡ None → ready ≡ true
-    → room_at ended ready sender ≡ room_by sender.window sender.issued sender.acked
+    → room_at ended ready sender ≡ room_by (sender.window + sender.extra) sender.issued sender.acked
 room_open None true sender e r = refl
 room_open None false sender e r = cc
 room_open (Some end) true sender e r = cc
@@ -185,14 +185,17 @@ module _ (s : Standing) (known known' : Known) (x y : SessionData) (files : List
       ready_then : y.sender.ready ≡ true
       ready_then = t.ready_is ∙ ap (λ f. found.ready_after f x.sender.ready) quiet ∙ sym (at.ready open_before) ∙ ready
 
-      room_is : room_of (after_note note s) ≡ sender_room y.sender
-      room_is =
+      -- the window may have more than the settings say, never less
+      room_less : room_of (after_note note s) ≤ sender_room y.sender
+      room_less =
+          let by_window : room_of (after_note note s) ≡ room_by y.sender.window y.sender.issued y.sender.acked =
           same_room s.window y.sender.window _ y.sender.issued _ y.sender.acked (at.window ∙ sym t.window)
           (ap (λ (d : Data). d.issued) desk_then ∙ t.joined.issued) (ap (λ (d : Data). d.acked) desk_then ∙ t.joined.acked)
-          ∙ sym (room_open y.sender.ended y.sender.ready y.sender (t.joined.running open_then) ready_then)
+          in
+          omega (arith, by_window, room_open y.sender.ended y.sender.ready y.sender (t.joined.running open_then) ready_then)
 
       by : (sender_room y.sender ≡ 0) ⊎ ((pull_step at_moment y.desk).0 ≡ None) → IsSpent at_moment (after_note note s)
-      by (inl full) = inl (room_is ∙ full)
+      by (inl full) = inl (omega (arith, room_less, full))
       by (inr none) = inr (ap (λ d. (pull_step at_moment d).0) desk_then ∙ none)
 
   -- a fact of an open session, if it isn't the one that opens it

@@ -71,6 +71,23 @@ fn stop_while_printing(rt: HostRuntime) {
     bench.end();
 }
 
+// `M112` alone while the host connects: it is refused before a link is made, and then goes out before the hello is answered.
+#[test]
+fn stop_while_connecting(rt: HostRuntime) {
+    let mut bench = Bench::sound(&rt, rt.alloc());
+    bench.accepts(&rt, ANA, Wish::Connect);
+    let connecting = Seen::WrongState(State::Connecting);
+    bench.sees(&rt, ANA, Wish::Line(b"M112"), connecting);
+    bench.turn(&rt);
+    bench.sees(&rt, ANA, Wish::Line(b"M105"), connecting);
+    bench.accepts(&rt, ANA, Wish::Line(b"M112"));
+    bench.turn(&rt);
+    assert_eq!(rt; bench.state(), State::Closing);
+    bench.turn(&rt);
+    assert_eq!(rt; bench.state(), State::Fault);
+    bench.end();
+}
+
 // A restart ends the paused print as cancelled in the same commit.
 #[test]
 fn restart_while_paused(rt: HostRuntime) {
