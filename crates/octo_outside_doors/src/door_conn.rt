@@ -20,11 +20,12 @@ const WAIT: i32 = 10;
 // How many such waits a write takes at most. The pace of its peer ends it before.
 const WAITS: u32 = 1_100;
 
-// After how many bytes, read and written, a connection rests, and for how many milliseconds. A caller that reads or sends much
-// without a pause would else take the processor that the printer's thread needs.
+// After how many bytes, read and written, a connection rests: for a millisecond, and for one more for each further piece that was
+// begun by then. A caller that reads or sends much without a pause would else take the processor that the printer's thread needs.
 const PIECE: usize = 65_536;
 
-const REST: i32 = 1;
+// For how many milliseconds it rests at most.
+const MOST_REST: usize = 10;
 
 /// A connection of a door over TCP. It records neither what is left nor what was written.
 ///
@@ -32,7 +33,8 @@ const REST: i32 = 1;
 /// direction there are 10 seconds for which it may keep the connection waiting in all, and each 12,800 bytes that it sends or
 /// takes add a second, up to those 10. Once they are used up, each read is quiet at once, or each write fails.
 ///
-/// After each 65,536 bytes that it reads and writes it rests for a millisecond, so that the processors are free for others.
+/// Once it has read and written 65,536 bytes or more since its last rest, it rests for a millisecond for each 65,536 bytes or part of
+/// them, and for 10 at most, so that the processors are free for others.
 #[derive(Drop)]
 pub struct DoorConn<R: Drop> {
     rt: R,
@@ -119,15 +121,16 @@ impl<R: Drop> DoorConn<R> {
         Failed
     }
 
-    // These bytes were read or written. After each piece it rests.
+    // These bytes were read or written. After a piece or more it rests.
     fn count_moved(&mut self, bytes: usize)
         ensures faults { self.new.faults ≡ self.old.faults }
         ensures quiets { self.new.quiets ≡ self.old.quiets }
     {
         self.moved = self.moved.saturating_add(bytes);
         if self.moved >= PIECE {
+            let rest = self.moved.div_ceil(PIECE).min(MOST_REST);
             self.moved = 0;
-            poll(&mut [], REST);
+            poll(&mut [], rest as i32);
         }
     }
 
