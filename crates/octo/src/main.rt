@@ -105,7 +105,9 @@ fn carry_out<
     let print_link = with_progress(system, view_of(system, words), port_link);
     let mut link = LoggedLink::new(print_link, HostLog::new(system, is_logged));
     let mut clock = EarClock::new(*system, ear);
-    let folder_shelf = FolderShelf::new(*system, folder);
+    let Ok(folder_shelf) = FolderShelf::new(*system, folder) else {
+        return end_with(out, &HostReport::Command(Report::NoMemory));
+    };
     let mut shelf = LoggedShelf::new(folder_shelf, HostLog::new(system, is_logged));
     let status = octo(
         rt,

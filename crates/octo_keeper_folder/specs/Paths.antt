@@ -12,3 +12,7 @@ part_in folder number = folder ++ codes "/.part-" ++ decimal number
 -- the path of the file that a stager's part has replaced
 abbrev pub former_in : List ℕ → ℕ → List ℕ
 former_in folder number = folder ++ codes "/.former-" ++ decimal number
+
+-- the path of the file that was removed last, until a stager gives back its room
+abbrev pub removed_in : List ℕ → List ℕ
+removed_in folder = folder ++ codes "/.removed"

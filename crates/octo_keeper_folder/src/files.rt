@@ -5,7 +5,7 @@ ghost use Rattle.octo_access.specs.FileNames.{is_file_name};
 ghost use Rattle.octo_keeper.specs.declared.shelf.ShelfFault.TheVariants as fault;
 
 use crate::fetching::mark_of;
-use crate::paths::{PART, former_in, part_in, path_in};
+use crate::paths::{PART, former_in, part_in, path_in, removed_in};
 use byte_text::Name;
 use gcode_lines::MOST_FILE_BYTES;
 use octo_access::is_file_name;
@@ -120,8 +120,8 @@ pub(crate) fn write_new<R: Files>(rt: &R, path: &str, bytes: &[u8]) -> io::Resul
     file.sync_all()
 }
 
-// Has the disk take the names of a folder.
-fn sync_folder<R: Files>(rt: &R, folder: &Name) -> io::Result<()> {
+// Has the disk take the names of a folder. Beside uploads this takes long: the disk takes what is written of other files too.
+pub(crate) fn sync_folder<R: Files>(rt: &R, folder: &Name) -> io::Result<()> {
     let file = fs::open(rt, folder.as_str())?;
     file.sync_all()
 }
@@ -161,8 +161,8 @@ fn write_beside<R: Files>(rt: &R, part: &str, path: &str, bytes: &[u8]) -> Resul
     Ok(())
 }
 
-// Gives a file its name, after which the folder isn't synced yet: a part that a stager wrote is renamed, and without one the
-// bytes are written.
+// Gives a file its name: a part that a stager wrote is renamed, after which that stager syncs the folder. Without one the bytes
+// are written, and the folder is synced.
 fn place<R: Files>(
     rt: &R,
     folder: &Name,
@@ -181,11 +181,15 @@ fn place<R: Files>(
         path_in(folder, name, PART).as_str(),
         path.as_str(),
         bytes,
-    )
+    )?;
+    match sync_folder(rt, folder) {
+        Ok(()) => Ok(()),
+        Err(error) => Err(fault_of(&error)),
+    }
 }
 
-// Sets the bytes of a file: a new one is written beside it and synced, unless a stager has done so. It is renamed, and then the
-// folder is synced. Until the rename the former file exists, also after a full disk.
+// Sets the bytes of a file: a new one is written beside it and synced, unless a stager has done so, and is renamed. Until the
+// rename the former file exists, also after a full disk.
 pub(crate) fn write_file<R: Files>(
     rt: &R,
     folder: &Name,
@@ -198,14 +202,11 @@ pub(crate) fn write_file<R: Files>(
     if !is_file_name(name.as_str()) {
         return Err(ShelfFault::Failed);
     }
-    place(rt, folder, name, bytes, part)?;
-    match sync_folder(rt, folder) {
-        Ok(()) => Ok(()),
-        Err(error) => Err(fault_of(&error)),
-    }
+    place(rt, folder, name, bytes, part)
 }
 
-// Takes the file of that name out, if the folder has it.
+// Takes the file of that name out, if the folder has it: gives it a name that no file on a shelf has, under which a stager gives
+// back its room, which takes long for a large file, and syncs the folder.
 pub(crate) fn remove_file<R: Files>(rt: &R, folder: &Name, name: &Name) -> Result<(), ShelfFault>
     ensures other { is_file_name name.now ≡ false → IsOk result }
 {
@@ -216,10 +217,7 @@ pub(crate) fn remove_file<R: Files>(rt: &R, folder: &Name, name: &Name) -> Resul
     if state_of(rt, path.as_str())?.is_none() {
         return Ok(());
     }
-    if let Err(error) = fs::remove_file(rt, path.as_str()) {
-        return Err(fault_of(&error));
-    }
-    match sync_folder(rt, folder) {
+    match fs::rename(rt, path.as_str(), removed_in(folder).as_str()) {
         Ok(()) => Ok(()),
         Err(error) => Err(fault_of(&error)),
     }

@@ -5,6 +5,7 @@ mod fetching;
 mod files;
 mod folder;
 mod listing;
+mod notes;
 mod paths;
 mod shelf;
 mod stager;

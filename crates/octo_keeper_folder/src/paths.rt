@@ -1,6 +1,6 @@
 //! The paths of the files on a shelf.
 ghost use Rattle.std.specs.Prelude.{◌≡◌, ◌≤◌, ◌++◌, codes, decimal, length};
-ghost use Rattle.octo_keeper_folder.specs.Paths.{path_in, part_in, former_in};
+ghost use Rattle.octo_keeper_folder.specs.Paths.{path_in, part_in, former_in, removed_in};
 
 use arrayvec::ArrayString;
 use byte_text::Name;
@@ -50,4 +50,14 @@ pub(crate) fn former_in(folder: &Name, number: u8) -> FilePath
     ensures { result.bytes ≡ former_in folder.now number }
 {
     numbered_in(folder, "/.former-", number)
+}
+
+// The path of the file that was removed last, in a folder.
+pub(crate) fn removed_in(folder: &Name) -> FilePath
+    ensures { result.bytes ≡ removed_in folder.now }
+{
+    let mut path = FilePath::new();
+    path.push_str(folder.as_str());
+    path.push_str("/.removed");
+    path
 }

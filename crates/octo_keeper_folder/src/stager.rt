@@ -1,7 +1,8 @@
 //! What writes files beside those of a folder, and reads its files ahead.
 use crate::fetching::fetch_file;
-use crate::files::write_new;
-use crate::paths::{FilePath, former_in, part_in};
+use crate::files::{sync_folder, write_new};
+use crate::notes::Notes;
+use crate::paths::{FilePath, former_in, part_in, removed_in};
 use byte_text::Name;
 use octo_keeper::{Fetched, Stager};
 use std::alloc::Global;
@@ -9,7 +10,10 @@ use std::fs;
 use std::rt::Files;
 
 /// A stager of a folder's shelf: its part is the file `.part-N` of the folder if N is its number, and `.former-N` the file that the
-/// part has replaced. No file on a shelf has such a name.
+/// part has replaced. `.removed` is the file that the shelf has removed last. No file on a shelf has such a name.
+///
+/// After a put of its part, and after each remove, `clear` has the disk take the names of the folder, and gives back the room of the
+/// replaced file and the removed one. Both may take long, and so the shelf does neither.
 ///
 /// A loss of power, or the end of the process, may leave these files. The next stager of this number removes them.
 #[derive(Drop)]
@@ -19,6 +23,7 @@ pub struct FolderStager<R: Files + Drop> {
     part: FilePath,
     former: FilePath,
     number: u8,
+    notes: Notes,
     // Whether the part, or the file that it has replaced, may exist.
     is_written: bool,
 }
@@ -27,23 +32,38 @@ impl<R: Files + Drop> FolderStager<R> {
     ghost use Rattle.std.specs.Prelude.{◌≡◌};
     ghost use Rattle.octo_keeper_folder.specs.Paths.{part_in, former_in};
 
-    // The stager of that number in a folder; removes its files.
-    pub(crate) fn new(rt: R, folder: &Name, number: u8) -> Self
+    // The stager of that number in a folder, with the notes of its shelf; removes its files.
+    pub(crate) fn new(rt: R, folder: &Name, number: u8, notes: Notes) -> Self
         ensures number { result.number ≡ number }
         ensures part { result.part.bytes ≡ part_in folder.now number }
         ensures former { result.former.bytes ≡ former_in folder.now number }
         ensures folder { result.folder ≡ folder.now }
     {
-        let mut stager = FolderStager {
+        let stager = FolderStager {
             rt,
             folder: folder.copy(),
             part: part_in(folder, number),
             former: former_in(folder, number),
             number,
-            is_written: true,
+            notes,
+            is_written: false,
         };
-        stager.clear();
+        stager.remove_files();
         stager
+    }
+
+    // Has the disk take the names of the folder. If that fails, the shelf's next put does.
+    fn sync(&self) {
+        if sync_folder(&self.rt, &self.folder).is_err() {
+            self.notes.note_unsynced();
+        }
+    }
+
+    // Removes its part, unless that was put, and gives back the room of the file that was replaced, and of the one that was removed.
+    fn remove_files(&self) {
+        let _ = fs::remove_file(&self.rt, self.part.as_str());
+        let _ = fs::remove_file(&self.rt, self.former.as_str());
+        let _ = fs::remove_file(&self.rt, removed_in(&self.folder).as_str());
     }
 }
 
@@ -74,11 +94,13 @@ impl<R: Files + Drop> Stager for FolderStager<R> {
         ensures former { self.new.former ≡ self.old.former }
         ensures folder { self.new.folder ≡ self.old.folder }
     {
-        if self.is_written {
-            let _ = fs::remove_file(&self.rt, self.part.as_str());
-            let _ = fs::remove_file(&self.rt, self.former.as_str());
-            self.is_written = false;
+        let removals = self.notes.removals();
+        if self.is_written || removals != self.notes.finished() {
+            self.sync();
+            self.remove_files();
+            self.notes.finish(removals);
         }
+        self.is_written = false;
     }
 
     fn fetch(&mut self, alloc: Global, name: &Name) -> Option<Fetched>

@@ -11,7 +11,7 @@ use std::test::Fail;
 fn shelf(rt: &HostRuntime, folder: &str) -> Result<FolderShelf<HostRuntime>, Fail> {
     let _ = fs::remove_dir_all(rt, folder);
     fs::create_dir(rt, folder)?;
-    let mut shelf = FolderShelf::new(rt.clone()?, &Name::of(folder)?);
+    let mut shelf = FolderShelf::new(rt.clone()?, &Name::of(folder)?)?;
     puts(rt, &mut shelf, "a.gcode", b"G28\n")?;
     Ok(shelf)
 }

@@ -8,7 +8,7 @@ use std::test::Fail;
 fn shelf(rt: &HostRuntime, folder: &str) -> Result<FolderShelf<HostRuntime>, Fail> {
     let _ = fs::remove_dir_all(rt, folder);
     fs::create_dir(rt, folder)?;
-    Ok(FolderShelf::new(rt.clone()?, &Name::of(folder)?))
+    Ok(FolderShelf::new(rt.clone()?, &Name::of(folder)?)?)
 }
 
 fn puts<S: Shelf>(
@@ -208,6 +208,43 @@ fn a_replaced_file(rt: HostRuntime) -> Result<(), Fail> {
     Ok(())
 }
 
+// A removed file keeps a name that isn't listed, until a stager removes it, which needs not have written a part.
+#[test]
+fn a_removed_file(rt: HostRuntime) -> Result<(), Fail> {
+    let mut shelf = shelf(&rt, "folder_shelf_removed")?;
+    let mut stager = shelf.stager(1)?;
+    for text in ["a.gcode", "b.gcode"] {
+        assert_eq!(rt; puts(&rt, &mut shelf, text, b"G28\n"), Some(Ok(())));
+    }
+    assert_eq!(rt; removes(&rt, &mut shelf, "a.gcode"), Some(Ok(())));
+    assert!(rt; fs::exists(&rt, "folder_shelf_removed/.removed")?);
+    assert!(rt; listed(&rt, &mut shelf) == Some((1, 4)));
+    stager.clear();
+    assert!(rt; !fs::exists(&rt, "folder_shelf_removed/.removed")?);
+    assert_eq!(rt; has_none(&rt, &mut shelf, "a.gcode"), Some(true));
+    fs::remove_dir_all(&rt, "folder_shelf_removed")?;
+    Ok(())
+}
+
+// The room of one removed file alone waits for a stager, and a stager that sees no remove since leaves the folder as it is.
+#[test]
+fn two_removed_files(rt: HostRuntime) -> Result<(), Fail> {
+    let mut shelf = shelf(&rt, "folder_shelf_two_removed")?;
+    let mut stager = shelf.stager(0)?;
+    let mut other = shelf.stager(1)?;
+    for text in ["a.gcode", "b.gcode"] {
+        assert_eq!(rt; puts(&rt, &mut shelf, text, b"G28\n"), Some(Ok(())));
+        assert_eq!(rt; removes(&rt, &mut shelf, text), Some(Ok(())));
+    }
+    stager.clear();
+    assert!(rt; !fs::exists(&rt, "folder_shelf_two_removed/.removed")?);
+    fs::write(&rt, "folder_shelf_two_removed/.removed", "G28\n")?;
+    other.clear();
+    assert!(rt; fs::exists(&rt, "folder_shelf_two_removed/.removed")?);
+    fs::remove_dir_all(&rt, "folder_shelf_two_removed")?;
+    Ok(())
+}
+
 // Of a part of another size the bytes aren't taken. It stays until it is removed.
 #[test]
 fn a_part_of_another_size(rt: HostRuntime) -> Result<(), Fail> {
@@ -222,15 +259,17 @@ fn a_part_of_another_size(rt: HostRuntime) -> Result<(), Fail> {
     Ok(())
 }
 
-// A part and a replaced file that were left are removed when a stager begins, and no part is put that isn't there.
+// A part, a replaced file and a removed one that were left are removed when a stager begins, and no part is put that isn't there.
 #[test]
 fn a_part_that_was_left(rt: HostRuntime) -> Result<(), Fail> {
     let mut shelf = shelf(&rt, "folder_shelf_left")?;
     fs::write(&rt, "folder_shelf_left/.part-3", "G28\n")?;
     fs::write(&rt, "folder_shelf_left/.former-3", "G28\n")?;
+    fs::write(&rt, "folder_shelf_left/.removed", "G28\n")?;
     let _stager = shelf.stager(3)?;
     assert!(rt; !fs::exists(&rt, "folder_shelf_left/.part-3")?);
     assert!(rt; !fs::exists(&rt, "folder_shelf_left/.former-3")?);
+    assert!(rt; !fs::exists(&rt, "folder_shelf_left/.removed")?);
     assert_eq!(rt; puts_part(&rt, &mut shelf, b"G28\n", Some(3)), Some(true));
     fs::remove_dir_all(&rt, "folder_shelf_left")?;
     Ok(())
