@@ -1,2 +1,3 @@
 pub mod Heaters
 pub mod Whole
+pub mod Tokens

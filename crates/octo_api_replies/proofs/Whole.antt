@@ -1,7 +1,8 @@
 -- No value of a page has a number with a fraction, so each has its text.
-use Rattle.std.proofs.Common.{◌≡◌, refl, ℕ, false, List, Option, Some, None}
-use Rattle.serde_json.specs.Data.{no_members}
-use Rattle.serde_json.specs.Written.{has_float, members_have_float}
+use Rattle.std.proofs.Common.{◌≡◌, refl, ℕ, false, List, [], ◌∷◌, map, Option, Some, None}
+use Rattle.serde_json.specs.Data.{string, no_members}
+use Rattle.serde_json.specs.View.{items_of}
+use Rattle.serde_json.specs.Written.{has_float, items_have_float, members_have_float}
 use Rattle.job_desk.specs.declared.state.State.{State}
 use Rattle.octo_asks.specs.declared.shown.ShownHeat.{ShownHeat}
 use Rattle.octo_asks.specs.declared.shown.ShownFile.{ShownFile}
@@ -9,7 +10,11 @@ use Rattle.octo_asks.specs.declared.shown.Progress.{Progress}
 use Rattle.octo_api_refusals.proofs.Whole.{integer_whole}
 use Rattle.octo_api_replies.specs.Items.{heat_data}
 use Rattle.octo_api_replies.specs.Pages.{with_heater, connection_data, printer_data, job_data}
-use Rattle.octo_api_replies.specs.Whole.{texts_whole}
+
+-- a list of texts
+pub texts_whole : (texts : List (List ℕ)) → items_have_float (items_of (map string texts)) ≡ false
+texts_whole [] = refl
+texts_whole (text ∷ texts) = texts_whole texts
 
 -- pages
 pub connection_whole : (port : Option (List ℕ)) (state : State) (ports : List (List ℕ)) → has_float (connection_data port state ports) ≡ false

@@ -5,4 +5,4 @@ pub mod Refusals
 pub mod Replies
 pub mod Shown
 pub mod Texts
-pub mod Whole
+pub mod Tokens

@@ -2,13 +2,14 @@
 ghost use Rattle.std.specs.Prelude.{◌≡◌, IfOk};
 ghost use Rattle.serde_json.specs.Data.{string};
 ghost use Rattle.serde_json.specs.View.{view};
-ghost use Rattle.octo_api_replies.specs.Items.{heat_data, file_data, user_data, entry_data, print_data};
-ghost use Rattle.octo_api_replies.specs.Whole.{text_whole, file_whole, user_whole, entry_whole, print_whole};
+ghost use Rattle.octo_api_replies.specs.Items.{texts_data, heat_data, file_data, user_data, entry_data, print_data};
 
-use crate::lists::{ToJson, list_of};
+use crate::lists::{ToJson, write_list};
+use crate::rows::write_object;
 use crate::texts::outcome_text;
 use byte_text::Name;
-use octo_api_refusals::{Primitive, object_of, object_with};
+use json::Writer;
+use octo_api_refusals::{Primitive, object_of};
 use octo_asks::{ShownEntry, ShownFile, ShownHeat, ShownPrint, ShownUser};
 use serde_json::Value;
 use std::alloc::{AllocError, Global};
@@ -16,57 +17,50 @@ use std::alloc::{AllocError, Global};
 impl ToJson for Name {
     ghost json = { string };
 
-    fn to_json(&self, alloc: Global) -> Result<Value, AllocError> {
-        Value::try_from_str(alloc, self.as_str())
+    fn write_json(&self, out: &mut Writer) -> Result<(), AllocError> {
+        out.string(self.as_str())
     }
-
-    ghost whole = { text_whole };
 }
 
 impl ToJson for ShownFile {
     ghost json = { file_data };
 
-    fn to_json(&self, alloc: Global) -> Result<Value, AllocError> {
-        object_of(
-            alloc,
+    fn write_json(&self, out: &mut Writer) -> Result<(), AllocError> {
+        let name = self.name.as_str();
+        write_object(
+            out,
             &[
-                ("name", Primitive::Text(self.name.as_str())),
+                ("name", Primitive::Text(name)),
                 ("origin", Primitive::Text("local")),
-                ("path", Primitive::Text(self.name.as_str())),
+                ("path", Primitive::Text(name)),
                 ("size", Primitive::Count(self.size)),
                 ("type", Primitive::Text("machinecode")),
             ],
         )
     }
-
-    ghost whole = { file_whole };
 }
 
 impl ToJson for ShownUser {
     ghost json = { user_data };
 
-    fn to_json(&self, alloc: Global) -> Result<Value, AllocError> {
-        let groups = list_of(alloc, self.groups.as_slice())?;
-        object_with(
-            alloc,
-            &[
-                ("active", Primitive::Flag(self.active)),
-                ("name", Primitive::Text(self.name.as_str())),
-            ],
-            "groups",
-            groups,
-        )
+    fn write_json(&self, out: &mut Writer) -> Result<(), AllocError> {
+        out.begin_object()?;
+        out.key("active")?;
+        out.boolean(self.active)?;
+        out.key("groups")?;
+        write_list(out, self.groups.as_slice())?;
+        out.key("name")?;
+        out.string(self.name.as_str())?;
+        out.end_object()
     }
-
-    ghost whole = { user_whole };
 }
 
 impl ToJson for ShownEntry {
     ghost json = { entry_data };
 
-    fn to_json(&self, alloc: Global) -> Result<Value, AllocError> {
-        object_of(
-            alloc,
+    fn write_json(&self, out: &mut Writer) -> Result<(), AllocError> {
+        write_object(
+            out,
             &[
                 ("copies", Primitive::Count(self.copies.into())),
                 ("file", Primitive::Text(self.file.as_str())),
@@ -78,16 +72,14 @@ impl ToJson for ShownEntry {
             ],
         )
     }
-
-    ghost whole = { entry_whole };
 }
 
 impl ToJson for ShownPrint {
     ghost json = { print_data };
 
-    fn to_json(&self, alloc: Global) -> Result<Value, AllocError> {
-        object_of(
-            alloc,
+    fn write_json(&self, out: &mut Writer) -> Result<(), AllocError> {
+        write_object(
+            out,
             &[
                 ("commands", Primitive::Count(self.commands.into())),
                 ("file", Primitive::Text(self.file.as_str())),
@@ -97,8 +89,17 @@ impl ToJson for ShownPrint {
             ],
         )
     }
+}
 
-    ghost whole = { print_whole };
+// A list of names.
+pub(crate) fn names_value(alloc: Global, names: &[Name]) -> Result<Value, AllocError>
+    ensures { IfOk result (λ value. view value ≡ texts_data names.now) }
+{
+    let mut list = Vec::new(alloc);
+    for name in names {
+        list.push(Value::try_from_str(alloc, name.as_str())?)?;
+    }
+    Ok(Value::Array(list))
 }
 
 // A heater's temperatures.

@@ -11,6 +11,7 @@ mod pages;
 mod printer;
 mod refusals;
 mod replies;
+mod rows;
 mod shown;
 mod texts;
 mod uploads;

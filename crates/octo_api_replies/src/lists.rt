@@ -1,30 +1,32 @@
 //! What is shown as JSON, and lists of it.
-ghost use Rattle.std.specs.Prelude.{◌≡◌, map, Bool, false, IfOk};
+ghost use Rattle.std.specs.Prelude.{◌≡◌, ◌++◌, map, OnOk};
 ghost use Rattle.serde_json.specs.Data.{Data, array};
-ghost use Rattle.serde_json.specs.View.{view, items_of};
-ghost use Rattle.serde_json.specs.Written.{has_float};
+ghost use Rattle.serde_json.specs.View.{items_of};
+ghost use Rattle.octo_api_replies.specs.Tokens.{tokens_of};
 
-use serde_json::Value;
-use std::alloc::{AllocError, Global};
+use json::Writer;
+use std::alloc::AllocError;
 
-// What is shown as JSON, without a number that has a fraction.
+// What is shown as JSON.
 pub(crate) trait ToJson {
     ghost json: { Self → Data };
 
-    // Fails if out of memory.
-    fn to_json(&self, alloc: Global) -> Result<Value, AllocError>
-        ensures { IfOk result (λ value. view value ≡ json self.now) };
-
-    ghost whole: { (x : Self) → has_float (json x) ≡ false };
+    // Writes it. Fails if out of memory.
+    fn write_json(&self, out: &mut Writer) -> Result<(), AllocError>
+        ensures tokens { OnOk result
+            (out.new.tokens ≡ out.old.tokens ++ tokens_of (json self.now)) }
+        ensures before { out.new.before ≡ out.old.before };
 }
 
-// A list of what the items show, in their order.
-pub(crate) fn list_of<T: ToJson>(alloc: Global, items: &[T]) -> Result<Value, AllocError>
-    ensures { IfOk result (λ value. view value ≡ array (items_of (map T.json items.now))) }
+// Writes a list of what the items show, in their order.
+pub(crate) fn write_list<T: ToJson>(out: &mut Writer, items: &[T]) -> Result<(), AllocError>
+    ensures tokens { OnOk result (out.new.tokens
+        ≡ out.old.tokens ++ tokens_of (array (items_of (map T.json items.now)))) }
+    ensures before { out.new.before ≡ out.old.before }
 {
-    let mut list = Vec::new(alloc);
+    out.begin_array()?;
     for item in items {
-        list.push(item.to_json(alloc)?)?;
+        item.write_json(out)?;
     }
-    Ok(Value::Array(list))
+    out.end_array()
 }

@@ -5,7 +5,7 @@ ghost use Rattle.octo_api_refusals.specs.Objects.{primitive_data};
 ghost use Rattle.octo_api_replies.specs.Pages.{version_data, caller_data, login_data, current_data, options_data, text_or_null, connection_data, selected_data, printed_data, progress_data, course_members, job_data};
 ghost use Rattle.octo_api_refusals.specs.Refused.{json_reply};
 
-use crate::lists::list_of;
+use crate::items::names_value;
 use crate::texts::state_text;
 use byte_text::Name;
 use job_desk::State;
@@ -43,7 +43,7 @@ fn text_or_null(text: &Option<Name>) -> Primitive<'_>
 }
 
 // Whom a key names. Source: OctoPrint's REST API, general information.
-#[tactic(auto, using(crate::specs::Whole::texts_whole))]
+#[tactic(auto, using(crate::proofs::Whole::texts_whole))]
 pub(crate) fn caller_reply(
     alloc: Global,
     name: &Option<Name>,
@@ -51,12 +51,12 @@ pub(crate) fn caller_reply(
 ) -> Result<HttpReply, AllocError>
     ensures { IfOk result (λ reply. reply ≡ json_reply 200 (caller_data name.now groups.now)) }
 {
-    let groups = list_of(alloc, groups)?;
+    let groups = names_value(alloc, groups)?;
     object_reply_with(alloc, OK, &[("name", text_or_null(name))], "groups", groups)
 }
 
 // What a login shows of the caller: there is no session. Source: OctoPrint's REST API, general information.
-#[tactic(auto, using(crate::specs::Whole::texts_whole))]
+#[tactic(auto, using(crate::proofs::Whole::texts_whole))]
 pub(crate) fn login_reply(
     alloc: Global,
     name: &Option<Name>,
@@ -64,7 +64,7 @@ pub(crate) fn login_reply(
 ) -> Result<HttpReply, AllocError>
     ensures { IfOk result (λ reply. reply ≡ json_reply 200 (login_data name.now groups.now)) }
 {
-    let groups = list_of(alloc, groups)?;
+    let groups = names_value(alloc, groups)?;
     object_reply_with(
         alloc,
         OK,
@@ -95,7 +95,7 @@ fn current_value(alloc: Global, port: &Option<Name>, state: State) -> Result<Val
 fn options_value(alloc: Global, ports: &[Name]) -> Result<Value, AllocError>
     ensures { IfOk result (λ value. view value ≡ options_data ports.now) }
 {
-    let ports = list_of(alloc, ports)?;
+    let ports = names_value(alloc, ports)?;
     object_with(alloc, &[], "ports", ports)
 }
 

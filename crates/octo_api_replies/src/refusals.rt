@@ -8,10 +8,11 @@ ghost use Rattle.octo_api_replies.specs.Replies.{refusal, bad_file_reply, reply_
 
 use crate::lists::ToJson;
 use crate::texts::{KEEPER_FAULT, permission_text, state_text};
+use crate::written::{new_text, written_reply};
 use gcode_lines::FileFault;
 use octo_api_refusals::{
     BAD_REQUEST, CONFLICT, FORBIDDEN, INSUFFICIENT_STORAGE, NOT_FOUND, Primitive,
-    SERVICE_UNAVAILABLE, empty_reply, object_reply, object_reply_with,
+    SERVICE_UNAVAILABLE, empty_reply, object_reply,
 };
 use octo_asks::{Answer, ShownEntry};
 use octo_http::HttpReply;
@@ -123,14 +124,14 @@ fn too_hot_line(alloc: Global, line: u32, asked: u64, limit: u16) -> Result<Http
 fn name_of_entry(alloc: Global, entry: &ShownEntry) -> Result<HttpReply, AllocError>
     ensures { IfOk result (λ reply. reply ≡ json_reply 409 (name_taken_data (Some entry.now))) }
 {
-    let kept = entry.to_json(alloc)?;
-    object_reply_with(
-        alloc,
-        CONFLICT,
-        &[("error", Primitive::Text("NameTaken"))],
-        "kept",
-        kept,
-    )
+    let mut text = new_text(alloc)?;
+    text.begin_object()?;
+    text.key("error")?;
+    text.string("NameTaken")?;
+    text.key("kept")?;
+    entry.write_json(&mut text)?;
+    text.end_object()?;
+    Ok(written_reply(CONFLICT, text))
 }
 
 // A name that is held, with the entry of the queue that holds it.
