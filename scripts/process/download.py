@@ -14,8 +14,8 @@ from upload import cannot_trace, check  # noqa: E402
 
 CALLS = "open,openat,read,pread64,readv,mmap,sendto,sendmsg,write,writev,poll,ppoll"
 CONTENT = b"G1 X100 Y100 E1\n" * 65536
-# A rest of a connection, after much that it has sent: a poll of nothing, for a millisecond.
-REST = re.compile(r"poll\([^,]*, 0, 1\)")
+# A rest of a connection, after much that it has sent: a poll of nothing, for one to ten milliseconds.
+REST = re.compile(r"poll\([^,]*, 0, ([1-9]|10)\)")
 
 
 def traced(folder, work):

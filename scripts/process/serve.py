@@ -208,10 +208,12 @@ def killed_print(folder, after):
 
 
 class SilentPrinter(threading.Thread):
-    """Acknowledges the hello and nothing after it. Keeps each line with the moment at which it came, and the moment of the end."""
+    """Acknowledges the hello, if it greets, and nothing after it. Keeps each line with the moment at which it came, and the moment of the
+    end."""
 
-    def __init__(self):
+    def __init__(self, greets=True):
         super().__init__(daemon=True)
+        self.greets = greets
         self.listener = socket.create_server(("127.0.0.1", 0))
         self.port = self.listener.getsockname()[1]
         self.lines = []
@@ -222,7 +224,7 @@ class SilentPrinter(threading.Thread):
         conn, _ = self.listener.accept()
         try:
             for line in conn.makefile("rb"):
-                if not self.lines:
+                if self.greets and not self.lines:
                     conn.sendall(b"ok\n")
                 self.lines.append((time.monotonic(), line))
         finally:
@@ -250,6 +252,23 @@ def stopped_print(folder):
         prints = host.ask("GET", "/api/prints").json()["prints"]
         check("its record", [p["outcome"] for p in prints], ["Failed"])
         check("the end after it", host.shut_down()[0], 0)
+    finally:
+        host.kill()
+
+
+def stopped_connection(folder):
+    """M112 while the printer hasn't acknowledged the hello: it is the next line at the printer and the last one."""
+    printer = SilentPrinter(greets=False)
+    host = Host(folder, printer.port).start()
+    try:
+        host.post("/api/connection", {"command": "connect"})
+        until("the hello", lambda: printer.lines)
+        check("the state before the hello's ok", host.state(), "Connecting")
+        check("a stop while connecting", host.post("/api/printer/command", {"command": "M112"}).status, 204)
+        until("the end of its link", lambda: printer.closed)
+        check("what the printer got", [line for _, line in printer.lines], [b"N0 M110 N1*124\n", b"N2 M112*35\n"])
+        host.until_state("Error")
+        check("the end after that stop", host.shut_down()[0], 0)
     finally:
         host.kill()
 
@@ -335,7 +354,7 @@ def free_and_taken():
 
 
 def main():
-    checks = [slicer_upload, silent_peers, vanishing_peers, many_requests, asks_in_a_wait, stopped_print, tables, refusals]
+    checks = [slicer_upload, silent_peers, vanishing_peers, many_requests, asks_in_a_wait, stopped_print, stopped_connection, tables, refusals]
     checks += [lambda folder, after=after: killed_print(folder, after) for after in (0, 0.02, 0.1, 0.3, 0.7)]
     for work in checks:
         with tempfile.TemporaryDirectory() as folder:

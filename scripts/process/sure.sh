@@ -65,6 +65,8 @@ row "the ok of the last script lost" sure counted "$file" '4 4 - - 6' "$done" 0 
 row "three oks in a row lost" sure counted "$file" '4 4 - - 2,3,4' "$done" 0 "$all"
 row "lines lost and corrupted, each second reply lost" sure counted "$file" '4 4 3 5 2,4,6,8,10,12' "$done" 0 "$all"
 row "the same by the setting" print numbered "$file" '4 4 3 5 2,4,6,8,10,12' "$done" 0 "$all"
-row "the ok of the hello lost" sure counted "$file" '4 4 - - 1' 'session ended: no answer, 5 limits\n' 6 'M110 N1\n'
+row "the ok of the first hello lost" sure counted "$file" '4 4 - - 1' "$done" 0 "M110 N1\n$all"
+hellos='M110 N1\nM110 N1\nM110 N1\nM110 N1\nM110 N1\n'
+row "the oks of all hellos lost" sure counted "$file" '4 4 - - 1,2,3,4,5' 'session ended: no answer, 5 limits\n' 6 "$hellos"
 row "a host that counts the oks" print counted 'G28\nG1 X10\n' '4 4 - - 2' 'session ended: ok for 3, 2 expected\n' 6 'M110 N1\nG28\nG1 X10\nM84\n'
 exit "$failed"

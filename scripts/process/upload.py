@@ -15,6 +15,7 @@ CALLS = "open,openat,creat,write,pwrite64,writev,sendto,sendmsg,fsync,fdatasync,
 FIRST, SECOND = b"G28\nG1 X1\n", b"G28\nG1 X2\nG1 X3\n"
 UPLOADED = ["create part", "write part", "sync part", "rename part to file", "sync folder", "reply"]
 REPLACED = [*UPLOADED[:3], "keep former file", *UPLOADED[3:5], "remove former file", "reply"]
+REMOVED = ["rename file to removed", "sync folder", "remove removed", "reply"]
 failed = False
 
 
@@ -41,6 +42,10 @@ def step_of(call, folder, name):
     if former:
         # Of a missing one nothing is kept or removed.
         return None if not call.endswith(" = 0") else "keep former file" if call.startswith("link") else "remove former file"
+    if '"%s/.removed"' % folder in call:
+        if not call.endswith(" = 0"):
+            return None
+        return "rename file to removed" if call.startswith("rename") and '"%s/%s"' % (folder, name) in call else "remove removed"
     found = re.search(re.escape(folder) + r"/\.part-[0-3]\b", call)
     part, file = found.group() if found else folder + "/.part-", folder + "/" + name
     verb = call.split("(")[0]
@@ -121,7 +126,7 @@ def main():
         check("their calls of the system", found, ["remove part"] + UPLOADED + REPLACED * 2 + ["reply"])
     with tempfile.TemporaryDirectory() as folder:
         found = traced(os.path.realpath(folder), lambda host: (host.upload("a.gcode", FIRST), host.ask("DELETE", "/api/files/local/a.gcode")))
-        check("those of a deletion", found, UPLOADED + ["remove file", "sync folder", "reply", "reply"])
+        check("those of a deletion", found, UPLOADED + REMOVED + ["reply"])
 
 
 if __name__ == "__main__":
