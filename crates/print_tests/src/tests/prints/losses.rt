@@ -57,14 +57,20 @@ const TWO: Asked = Asked {
 // The lines that a printer runs if the `ok` of the second command is lost: the host probes.
 const PROBED: [&str; 3] = ["G28", "G1 X10", "M400"];
 
-// The `ok` of the last line is lost: the probe's `ok` names a line after it, so nothing is sent again. If the limit is before the next
-// poll, the line is sent again, and the printer asks for the one after it. That acknowledges nothing.
+// The `ok` of the last line is lost: the probe's `ok` names a line after it, so nothing is sent again.
 #[test]
 fn last_ok_lost(rt: HostRuntime) -> Result<(), Fail> {
     let printed = print_surely(rt.alloc(), &TWO, 4, 5_000, &[3])?;
     check_print(&rt, &printed, PrintEnd::Done, 4, &PROBED);
-    let later = print_surely(rt.alloc(), &TWO, 4, 40_000, &[3])?;
-    check_print(&rt, &later, PrintEnd::Done, 5, &PROBED);
+    Ok(())
+}
+
+// The same with the limit before the next poll: the line is sent again, and the printer asks for the one after it. That acknowledges
+// nothing.
+#[test]
+fn last_ok_lost_for_a_limit(rt: HostRuntime) -> Result<(), Fail> {
+    let printed = print_surely(rt.alloc(), &TWO, 4, 40_000, &[3])?;
+    check_print(&rt, &printed, PrintEnd::Done, 5, &PROBED);
     Ok(())
 }
 
@@ -77,16 +83,28 @@ const UNGREETED: Asked = Asked {
     ..TWO
 };
 
-// The first hello is lost, or its `ok`, and the second hello has one; or those of all five hellos are lost.
+// The `ok` of the first hello is lost, and the second hello has one.
 #[test]
 fn first_ok_lost(rt: HostRuntime) -> Result<(), Fail> {
     let printed = print_surely(rt.alloc(), &TWO, 4, 5_000, &[1])?;
     check_print(&rt, &printed, PrintEnd::Done, 4, &["G28", "G1 X10"]);
-    let greeted = print_surely(rt.alloc(), &UNGREETED, 4, 5_000, &[])?;
-    check_print(&rt, &greeted, PrintEnd::Done, 4, &["G28", "G1 X10"]);
-    let none = print_surely(rt.alloc(), &TWO, 4, 5_000, &[1, 2, 3, 4, 5])?;
+    Ok(())
+}
+
+// The first hello is lost.
+#[test]
+fn first_hello_lost(rt: HostRuntime) -> Result<(), Fail> {
+    let printed = print_surely(rt.alloc(), &UNGREETED, 4, 5_000, &[])?;
+    check_print(&rt, &printed, PrintEnd::Done, 4, &["G28", "G1 X10"]);
+    Ok(())
+}
+
+// The `ok`s of all five hellos are lost.
+#[test]
+fn no_hello_acknowledged(rt: HostRuntime) -> Result<(), Fail> {
+    let printed = print_surely(rt.alloc(), &TWO, 4, 5_000, &[1, 2, 3, 4, 5])?;
     let end = PrintEnd::Ended(SessionEnd::NoAnswer { silent: 5 });
-    check_print(&rt, &none, end, 5, &[]);
+    check_print(&rt, &printed, end, 5, &[]);
     Ok(())
 }
 
@@ -120,16 +138,23 @@ fn oks_lost(rt: HostRuntime) -> Result<(), Fail> {
 }
 
 // Each reply is lost in turn, also those of a refusal: an error, a Resend and an `ok`.
-#[test]
-fn replies_of_refusals_lost(rt: HostRuntime) -> Result<(), Fail> {
+fn lose_each(rt: &impl Abort, alloc: Global, window: u8) -> Result<(), Fail>
+    requires open_window { 1 ≤ window }
+    requires small_window { window ≤ 16 }
+{
     for lost in 1..31 {
-        let lost = [lost];
-        check_done(&rt, &print_surely(rt.alloc(), &HARMED, 1, 5_000, &lost)?);
-        check_done(&rt, &print_surely(rt.alloc(), &HARMED, 2, 5_000, &lost)?);
-        check_done(&rt, &print_surely(rt.alloc(), &HARMED, 3, 5_000, &lost)?);
-        check_done(&rt, &print_surely(rt.alloc(), &HARMED, 4, 5_000, &lost)?);
+        check_done(rt, &print_surely(alloc, &HARMED, window, 5_000, &[lost])?);
     }
     Ok(())
+}
+
+// They are, in windows of one to four lines.
+#[test]
+fn replies_of_refusals_lost(rt: HostRuntime) -> Result<(), Fail> {
+    lose_each(&rt, rt.alloc(), 1)?;
+    lose_each(&rt, rt.alloc(), 2)?;
+    lose_each(&rt, rt.alloc(), 3)?;
+    lose_each(&rt, rt.alloc(), 4)
 }
 
 // A print has run the first of the commands, each once, and all of them if it is done. Else it ended for a missing `ok`, because
