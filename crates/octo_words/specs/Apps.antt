@@ -70,6 +70,12 @@ serve_app =
     command_app (codes "serve")
     (operand (codes "address") ∷ operand (codes "folder") ∷ operand (codes "database") ∷ needed_option (codes "settings") ∷ [])
 
+-- `floor FOLDER DATABASE --settings FILE [--turns N]`
+abbrev pub floor_app : App
+floor_app =
+    command_app (codes "floor")
+    (operand (codes "folder") ∷ operand (codes "database") ∷ needed_option (codes "settings") ∷ option (codes "turns") ∷ [])
+
 -- the program without its commands: the arguments come without its name, one command is wanted, and none shows help
 abbrev pub bare_app : App
 bare_app = record (new_app (codes "octo")) {
@@ -101,7 +107,7 @@ abbrev pub printing_commands : List App
 printing_commands = print_app ∷ sure_app ∷ check_app ∷ demo_app ∷ []
 
 abbrev pub file_commands : List App
-file_commands = measure_app ∷ rest_app ∷ serve_app ∷ []
+file_commands = measure_app ∷ rest_app ∷ serve_app ∷ floor_app ∷ []
 
 -- a program with all of them
 abbrev pub with_all_commands : App → App

@@ -7,7 +7,7 @@ use Rattle.clap.specs.declared.parser.matches.ArgMatches.{ArgMatches}
 use Rattle.byte_text.specs.Number.{whole_number, in_range, number_in, only_if}
 use Rattle.octo_words.specs.Apps.{octo_app}
 use Rattle.octo_words.specs.declared.command.Command.{Command}
-use Rattle.octo_words.specs.declared.command.Command.TheVariants.{Print, Check, Demo, Measure, Rest, Serve}
+use Rattle.octo_words.specs.declared.command.Command.TheVariants.{Print, Check, Demo, Measure, Rest, Serve, Floor}
 use Rattle.octo_words.specs.declared.command.WordsFault.{WordsFault}
 use Rattle.octo_words.specs.declared.command.WordsFault.TheVariants.{BadWords}
 
@@ -106,6 +106,16 @@ serve_of rows =
     (option_and_then name_of (first_of (codes "folder") rows)))
     (option_and_then name_of (first_of (codes "address") rows))
 
+-- `floor`
+abbrev pub floor_of : List Row → Option Command
+floor_of rows =
+    option_and_then (λ folder. option_and_then (λ database. option_and_then (λ settings. option_map (λ turns.
+    Floor folder database settings turns)
+    (turns_of (first_of (codes "turns") rows)))
+    (first_of (codes "settings") rows))
+    (option_and_then name_of (first_of (codes "database") rows)))
+    (option_and_then name_of (first_of (codes "folder") rows))
+
 -- the command of that name
 abbrev pub command_named : Text → List Row → Option Command
 command_named name rows =
@@ -116,6 +126,7 @@ command_named name rows =
     else if bytes_eq name (codes "measure") then measure_of rows
     else if bytes_eq name (codes "rest") then rest_of rows
     else if bytes_eq name (codes "serve") then serve_of rows
+    else if bytes_eq name (codes "floor") then floor_of rows
     else None
 
 -- the command that arguments are, if they are one

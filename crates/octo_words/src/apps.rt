@@ -2,7 +2,7 @@
 ghost use Rattle.std.specs.Prelude.{◌≡◌, false, true, fold, IfOk};
 ghost use Rattle.clap.specs.Words.{App, app_of, new_app, rule_of, with_subcommand};
 ghost use Rattle.clap.specs.declared.builder.command.Command.TheViews.{out-Command};
-ghost use Rattle.octo_words.specs.Apps.{operand, option, needed_option, flag, rule_of_kind, with_argument, print_app, sure_app, check_app, demo_app, measure_app, rest_app, serve_app, bare_app, helped_bare_app, with_commands, printing_commands, file_commands, octo_app, helped_app};
+ghost use Rattle.octo_words.specs.Apps.{operand, option, needed_option, flag, rule_of_kind, with_argument, print_app, sure_app, check_app, demo_app, measure_app, rest_app, serve_app, floor_app, bare_app, helped_bare_app, with_commands, printing_commands, file_commands, octo_app, helped_app};
 
 use clap::{Arg, ArgAction, Command};
 use std::alloc::{AllocError, Global};
@@ -192,6 +192,23 @@ fn serve_app<'a>(alloc: Global) -> Result<Command<'a>, AllocError>
     )
 }
 
+fn floor_app<'a>(alloc: Global) -> Result<Command<'a>, AllocError>
+    ensures app { IfOk result (λ c. app_of c ≡ floor_app) }
+    ensures local { IfOk result (λ c. (out-Command c).has_globals ≡ false) }
+{
+    command(
+        alloc,
+        "floor",
+        "Prints the queue of a database on 2 to 8 printers, with the files of a folder",
+        &[
+            (Kind::Operand, "folder"),
+            (Kind::Operand, "database"),
+            (Kind::Needed, "settings"),
+            (Kind::Optional, "turns"),
+        ],
+    )
+}
+
 // The program without its commands.
 fn bare_app<'a>(alloc: Global) -> Command<'a>
     ensures app { app_of result ≡ bare_app }
@@ -245,7 +262,7 @@ fn with_printing<'a>(
     with_command(program, demo_app(alloc))
 }
 
-// A program with `measure`, `rest` and `serve` too.
+// A program with `measure`, `rest`, `serve` and `floor` too.
 fn with_files<'a>(
     alloc: Global,
     program: Result<Command<'a>, AllocError>,
@@ -255,7 +272,8 @@ fn with_files<'a>(
 {
     let program = with_command(program, measure_app(alloc));
     let program = with_command(program, rest_app(alloc));
-    with_command(program, serve_app(alloc))
+    let program = with_command(program, serve_app(alloc));
+    with_command(program, floor_app(alloc))
 }
 
 // The program with all its commands.

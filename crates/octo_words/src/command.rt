@@ -123,6 +123,14 @@ pub enum Command {
         database: Name,
         settings: FilePath,
     },
+    /// `floor FOLDER DATABASE --settings FILE [--turns N]`: prints the queue of a database on several printers, with the files of
+    /// a folder, in turns as `print` has them.
+    Floor {
+        folder: Name,
+        database: Name,
+        settings: FilePath,
+        turns: u64,
+    },
 }
 
 /// Why the arguments are no command.

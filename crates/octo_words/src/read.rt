@@ -2,7 +2,7 @@
 ghost use Rattle.std.specs.Prelude.{◌≡◌, codes, map, IfOk};
 ghost use Rattle.std.specs.Str.{bytes_eq};
 ghost use Rattle.clap.specs.Words.{found_of, rows_of};
-ghost use Rattle.octo_words.specs.Words.{IsInRange, Reads, has_progress, progress_of, print_of, check_of, demo_of, measure_of, rest_of, serve_of, command_named, command_of};
+ghost use Rattle.octo_words.specs.Words.{IsInRange, Reads, has_progress, progress_of, print_of, check_of, demo_of, measure_of, rest_of, serve_of, floor_of, command_named, command_of};
 
 use crate::command::{Command, WordsFault};
 use crate::fields::{file_in, name_in, number_in, optional_file_in, text_in, turns_in};
@@ -92,6 +92,22 @@ fn read_serve(alloc: Global, found: &ArgMatches<'_>) -> Result<Command, WordsFau
     })
 }
 
+fn read_floor(alloc: Global, found: &ArgMatches<'_>) -> Result<Command, WordsFault>
+    ensures read { Reads (floor_of (rows_of (found_of found.now))) result }
+    ensures range { IfOk result IsInRange }
+{
+    let folder = name_in(found, "folder")?;
+    let database = name_in(found, "database")?;
+    let settings = file_in(alloc, found, "settings")?;
+    let turns = turns_in(found, "turns")?;
+    Ok(Command::Floor {
+        folder,
+        database,
+        settings,
+        turns,
+    })
+}
+
 // The command of that name.
 fn read_named(alloc: Global, name: &str, found: &ArgMatches<'_>) -> Result<Command, WordsFault>
     ensures read { Reads (command_named name.now (rows_of (found_of found.now))) result }
@@ -105,6 +121,7 @@ fn read_named(alloc: Global, name: &str, found: &ArgMatches<'_>) -> Result<Comma
         "measure" => read_measure(alloc, found),
         "rest" => read_rest(alloc, found),
         "serve" => read_serve(alloc, found),
+        "floor" => read_floor(alloc, found),
         _ => Err(WordsFault::BadWords),
     }
 }

@@ -133,6 +133,17 @@ fn wrong_number<'a>(
     })
 }
 
+// The turns of a command, if they are no such number.
+fn wrong_turns<'a>(found: &ArgMatches<'a>) -> Option<WrongValue<'a>> {
+    wrong_number(
+        found,
+        "turns",
+        1,
+        MOST_TURNS,
+        "a number from 1 to 4000000000000",
+    )
+}
+
 // The value of an argument that lists replies. It is the last one of its command, so it isn't tested again.
 fn listed_value<'a>(found: &ArgMatches<'a>, argument: &'a str) -> Option<WrongValue<'a>> {
     let value = text_in(found, argument)?;
@@ -146,13 +157,7 @@ fn listed_value<'a>(found: &ArgMatches<'a>, argument: &'a str) -> Option<WrongVa
 // The first value of a command that may not be.
 fn wrong_value<'a>(command: &str, found: &ArgMatches<'a>) -> Option<WrongValue<'a>> {
     match command {
-        "print" | "sure" => wrong_name(found, "port").or(wrong_number(
-            found,
-            "turns",
-            1,
-            MOST_TURNS,
-            "a number from 1 to 4000000000000",
-        )),
+        "print" | "sure" => wrong_name(found, "port").or(wrong_turns(found)),
         "demo" => wrong_number(found, "seed", 0, MOST_SEED, "a number from 0 to 2147483647")
             .or(wrong_number(
                 found,
@@ -172,6 +177,9 @@ fn wrong_value<'a>(command: &str, found: &ArgMatches<'a>) -> Option<WrongValue<'
         "serve" => wrong_name(found, "address")
             .or(wrong_name(found, "folder"))
             .or(wrong_name(found, "database")),
+        "floor" => wrong_name(found, "folder")
+            .or(wrong_name(found, "database"))
+            .or(wrong_turns(found)),
         _ => None,
     }
 }
