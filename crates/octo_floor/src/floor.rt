@@ -97,4 +97,11 @@ impl Floor {
             began: false,
         })
     }
+
+    /// The printers, in order, each with what was done with it.
+    pub fn printers(&self) -> &[Bay]
+        ensures { result.now ≡ self.now.bays }
+    {
+        &self.bays
+    }
 }

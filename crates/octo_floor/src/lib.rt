@@ -8,7 +8,9 @@ mod links;
 mod round;
 mod run;
 mod steps;
+mod watch;
 
 pub use floor::{Floor, SessionList};
 pub use links::Links;
 pub use round::Rounded;
+pub use watch::Watch;

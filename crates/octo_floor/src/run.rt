@@ -6,11 +6,13 @@ ghost use Rattle.octo_floor_step.specs.Objects.{link_state, store_state};
 ghost use Rattle.octo_floor_round_proof.specs.Floor.{setting, AreUp};
 ghost use Rattle.octo_floor.specs.Links.{link_states};
 ghost use Rattle.octo_floor_run_proof.specs.Leaving.{Leaves};
+ghost use Rattle.octo_floor_run_proof.specs.Rounds.{HasRounds};
 ghost use Rattle.octo_floor_round_proof.specs.Points.{GoesOn};
 ghost use Rattle.octo_floor_run_proof.specs.Run.{AreCalled, AreNumbersOf, EndsFor, reason_of, run_begun};
 
 use crate::floor::Floor;
 use crate::links::Links;
+use crate::watch::{Unwatched, Watch};
 use octo_floor_rules::{FloorEnd, Why};
 use octo_floor_step::EventList;
 use octo_keeper::{Keeper, Shelf};
@@ -66,6 +68,59 @@ impl Floor {
         ensures records { AllPairs (λ a b. a.number ≢ b.number)
             (started_rows self.new.ledger.history) }
 
+        // Each of them leaves idle only printers that had nothing to start.
+        ensures rounds { let state = link_state L.kind L.past L.calls L.up L.faults in
+            let store = store_state K.tables K.faults S.files S.faults in
+            HasRounds turns
+            (run_begun (setting self.old (link_states state links.old)
+            (store keeper.old shelf.old)))
+            (setting self.new (link_states state links.new) (store keeper.new shelf.new))
+            result.why }
+
+        // What it returns.
+        ensures numbers { AreNumbersOf self.new result }
+        ensures ends { EndsFor self.old self.new result.why }
+        ensures used { let state = link_state L.kind L.past L.calls L.up L.faults in
+            result.why ≡ why.TurnsUsed
+            → AreCalled turns (link_states state links.old) (link_states state links.new) }
+        ensures up_after { let state = link_state L.kind L.past L.calls L.up L.faults in
+            AreUp self.new.bays (link_states state links.new) }
+    {
+        self.run_watched(links, keeper, shelf, clock, turns, &mut Unwatched)
+    }
+
+    /// The same, while something watches: it is shown the events of each round.
+    pub fn run_watched<L: Link + Drop, K: Keeper, S: Shelf, T: Clock, W: Watch>(
+        &mut self,
+        links: &mut Links<L>,
+        keeper: &mut K,
+        shelf: &mut S,
+        clock: &mut T,
+        turns: u64,
+        watch: &mut W,
+    ) -> FloorEnd
+        requires up { let state = link_state L.kind L.past L.calls L.up L.faults in
+            AreUp self.old.bays (link_states state links.old) }
+
+        // As its rounds, one after the other, in which no fault had come before.
+        ensures goes { let state = link_state L.kind L.past L.calls L.up L.faults in
+            let store = store_state K.tables K.faults S.files S.faults in
+            (events : FloorHistory) × GoesOn
+            (run_begun (setting self.old (link_states state links.old)
+            (store keeper.old shelf.old)))
+            (setting self.new (link_states state links.new) (store keeper.new shelf.new)) events }
+        ensures records { AllPairs (λ a b. a.number ≢ b.number)
+            (started_rows self.new.ledger.history) }
+
+        // Each of them leaves idle only printers that had nothing to start.
+        ensures rounds { let state = link_state L.kind L.past L.calls L.up L.faults in
+            let store = store_state K.tables K.faults S.files S.faults in
+            HasRounds turns
+            (run_begun (setting self.old (link_states state links.old)
+            (store keeper.old shelf.old)))
+            (setting self.new (link_states state links.new) (store keeper.new shelf.new))
+            result.why }
+
         // What it returns.
         ensures numbers { AreNumbersOf self.new result }
         ensures ends { EndsFor self.old self.new result.why }
@@ -83,6 +138,7 @@ impl Floor {
             moment = clock.now().max(moment);
             events.clear();
             let heard = self.round_into(links, keeper, shelf, moment, &mut events);
+            watch.see(&self.ports, events.as_slice());
             leaves = self.leave(leaves);
             if leaves && self.have_left() {
                 return self.end(self.reason());

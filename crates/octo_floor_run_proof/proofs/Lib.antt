@@ -4,4 +4,5 @@ pub mod Gone
 pub mod Leaves
 pub mod Opens
 pub mod Rising
+pub mod Rounds
 pub mod Running

@@ -1,4 +1,4 @@
-use Rattle.std.proofs.Common.{refl, sym, ◌∙◌, subst}
+use Rattle.std.proofs.Common.{◌+◌, refl, sym, ◌∙◌, subst, arith}
 use Rattle.std.proofs.lemmas.Bool.{false≢true}
 use Rattle.octo_floor_rules.specs.Events.{FloorHistory}
 use Rattle.octo_floor_rules.proofs.Numbers.{numbers_differ}
@@ -7,13 +7,15 @@ use Rattle.octo_floor.specs.Fields.{floor_of}
 use Rattle.octo_floor_round_proof.specs.Floor.{FloorData, Setting, setting, AreUp}
 use Rattle.octo_floor.specs.Links.{link_states}
 use Rattle.octo_floor_round_proof.specs.Points.{GoesOn}
+use Rattle.octo_floor_run_proof.specs.Rounds.{HasRounds}
 use Rattle.octo_floor_run_proof.specs.Run.{IsOpen, HaveLeft}
 use Rattle.octo_floor_run_proof.proofs.Called.{called_first, called_on, called_bound, goes_on}
 use Rattle.octo_floor_round_proof.proofs.Goes.{GoesWell}
-use Rattle.octo_floor_run_proof.proofs.Running.{IsAfter, ran_on, run_begins, run_first, ends_for}
-use Rattle.octo_floor.proofs.floor.Floor.run.Given as given
-use Rattle.octo_floor.proofs.floor.Floor.run.Goals.{else-leaves-via-then-leaves+else-have_left, else-leaves-via-else-leaves}
-use Rattle.octo_floor.proofs.floor.Floor.run.Goals as goal
+use Rattle.octo_floor_run_proof.proofs.Rounds.{HaveMade, made_first, made_on, rounds_over, rounds_used}
+use Rattle.octo_floor_run_proof.proofs.Running.{IsAfter, IsLeaving, ran_on, run_begins, run_first, ends_for}
+use Rattle.octo_floor.proofs.floor.Floor.run_watched.Given as given
+use Rattle.octo_floor.proofs.floor.Floor.run_watched.Goals.{else-leaves-via-then-leaves+else-have_left, else-leaves-via-else-leaves}
+use Rattle.octo_floor.proofs.floor.Floor.run_watched.Goals as goal
 
 pub round_into-heard-requires-clause-up : goal.round_into-heard-requires-clause-up
 round_into-heard-requires-clause-up g c lifetimes live = c.loop.invariant.goes.1.up
@@ -24,14 +26,17 @@ loop-init g c =
     let up : AreUp c.self.inside.bays.items (link_states state c.args.links.now) =
     subst (λ (f : FloorData). AreUp f.bays (link_states state c.args.links.now)) (sym c.self.view_is) c.requires.up
     in
+    let first : FloorData = record (floor_of c.self.inside) { ledger = c.begin_run.new.self } in
     record {
       goes =
           run_begins (floor_of c.self.inside) c.begin_run.new.self (link_states state c.args.links.now)
           (store_state g.K.Keeper.tables g.K.Keeper.faults g.S.Shelf.files g.S.Shelf.faults c.args.keeper.now c.args.shelf.now) c.begin_run.ensures
           c.self.invariant up;
+      made = made_first (setting first (link_states state c.args.links.now)
+          (store_state g.K.Keeper.tables g.K.Keeper.faults g.S.Shelf.files g.S.Shelf.faults c.args.keeper.now c.args.shelf.now));
       still_open = λ not is. is;
-      leaving = λ is. absurd (false≢true is);
-      used = called_first (record (floor_of c.self.inside) { ledger = c.begin_run.new.self }) (link_states state c.args.links.now);
+      leaving = λ is. absurd {A = IsLeaving first first} (false≢true is);
+      used = called_first first (link_states state c.args.links.now);
     }
 
 -- some printer hasn't left yet
@@ -58,6 +63,9 @@ loop-preserved g c =
     in
     record {
       goes = so.0;
+      made = made_on c.loop.counter c.max-moment.result first x y c.round_into-heard.result c.round_into-heard.new.events.items c.loop.leaves
+          c.leave-leaves.result c.leave-leaves.new.self c.round_into-heard.ensures.round c.loop.invariant.goes.1.floor c.loop.invariant.goes.1.up
+          c.loop.invariant.made c.leave-leaves.ensures;
       still_open = so.1.still_open;
       leaving = so.1.leaving;
       used =
@@ -66,7 +74,7 @@ loop-preserved g c =
           c.loop.invariant.used c.leave-leaves.ensures so.1.began (going g c);
     }
 
--- where the last round has led
+-- what holds after the last round
 ended : (g : given.Over) (c : goal.After-end g) →
     ((es : FloorHistory) × GoesWell
     (setting (record (floor_of c.self.inside) { ledger = c.begin_run.new.self })
@@ -99,6 +107,30 @@ returns-then-have_left-clause-goes g c =
     in
     (so.0, subst From (run_first (floor_of c.self.inside) c.args.self.now c.begin_run.new.self c.begin_run.ensures c.self.view_is) so.1.goes)
 
+pub returns-then-have_left-clause-rounds : goal.returns-then-have_left-clause-rounds
+returns-then-have_left-clause-rounds g c =
+    let state : _ → LinkState = link_state g.L.Link.kind g.L.Link.past g.L.Link.calls g.L.Link.up g.L.Link.faults in
+    let store : _ → _ → StoreState = store_state g.K.Keeper.tables g.K.Keeper.faults g.S.Shelf.files g.S.Shelf.faults in
+    let first : Setting = setting (record (floor_of c.self.inside) { ledger = c.begin_run.new.self }) (link_states state c.args.links.now)
+    (store c.args.keeper.now c.args.shelf.now)
+    in
+    let x : Setting = setting c.loop.self (link_states state c.loop.links) (store c.loop.keeper c.loop.shelf) in
+    let y : Setting = setting c.round_into-heard.new.self (link_states state c.round_into-heard.new.links)
+    (store c.round_into-heard.new.keeper c.round_into-heard.new.shelf)
+    in
+    let last : Setting = setting c.leave-leaves.new.self y.links y.store in
+    let made : HaveMade (c.loop.counter + 1) first last =
+    made_on c.loop.counter c.max-moment.result first x y c.round_into-heard.result c.round_into-heard.new.events.items c.loop.leaves
+    c.leave-leaves.result c.leave-leaves.new.self c.round_into-heard.ensures.round c.loop.invariant.goes.1.floor c.loop.invariant.goes.1.up
+    c.loop.invariant.made c.leave-leaves.ensures
+    in
+    let within = c.loop-test.true in
+    let From : FloorData → Type 0 = λ f. HasRounds c.args.turns (setting f (link_states state c.args.links.now) (store c.args.keeper.now c.args.shelf.now))
+    last c.end.result.why in
+    subst From (run_first (floor_of c.self.inside) c.args.self.now c.begin_run.new.self c.begin_run.ensures c.self.view_is)
+    (rounds_over (c.loop.counter + 1) c.args.turns first last c.end.result.why c.leave-leaves.new.self.ledger.fault (omega (arith, within))
+    (c.end.ensures.why ∙ c.reason.ensures) made)
+
 pub returns-then-have_left-clause-records : goal.returns-then-have_left-clause-records
 returns-then-have_left-clause-records g c =
     let come = (ended g c).0.1.floor.came in
@@ -112,6 +144,20 @@ returns-then-have_left-clause-ends g c =
 
 pub returns-then-have_left-clause-up_after : goal.returns-then-have_left-clause-up_after
 returns-then-have_left-clause-up_after g c = (ended g c).0.1.up
+
+pub returns-clause-rounds : goal.returns-clause-rounds
+returns-clause-rounds g c =
+    let state : _ → LinkState = link_state g.L.Link.kind g.L.Link.past g.L.Link.calls g.L.Link.up g.L.Link.faults in
+    let store : _ → _ → StoreState = store_state g.K.Keeper.tables g.K.Keeper.faults g.S.Shelf.files g.S.Shelf.faults in
+    let first : Setting = setting (record (floor_of c.self.inside) { ledger = c.begin_run.new.self }) (link_states state c.args.links.now)
+    (store c.args.keeper.now c.args.shelf.now)
+    in
+    let last : Setting = setting c.loop.self (link_states state c.loop.links) (store c.loop.keeper c.loop.shelf) in
+    let From : FloorData → Type 0 = λ f. HasRounds c.args.turns (setting f (link_states state c.args.links.now) (store c.args.keeper.now c.args.shelf.now))
+    last c.end-2.result.why in
+    subst From (run_first (floor_of c.self.inside) c.args.self.now c.begin_run.new.self c.begin_run.ensures c.self.view_is)
+    (rounds_used c.loop.counter c.args.turns first last c.end-2.result.why c.loop.auto.counter-end c.loop-test.false c.loop.invariant.used.going
+    c.loop.invariant.made)
 
 pub returns-clause-records : goal.returns-clause-records
 returns-clause-records g c =

@@ -6,10 +6,11 @@ use Rattle.octo_floor.specs.Links.{link_states}
 use Rattle.octo_floor_run_proof.specs.Run.{IsOpen}
 use Rattle.octo_floor_run_proof.proofs.Called.{IsCalled}
 use Rattle.octo_floor_round_proof.proofs.Goes.{GoesWell}
+use Rattle.octo_floor_run_proof.proofs.Rounds.{HaveMade}
 use Rattle.octo_floor_run_proof.proofs.Running.{IsLeaving}
-use Rattle.octo_floor.proofs.floor.Floor.run.Given as goal
+use Rattle.octo_floor.proofs.floor.Floor.run_watched.Given as goal
 
--- the rounds so far: the floor went on by their events; until it leaves its printers stay open, and then they are gone
+-- the rounds so far, by whose events the floor went on; until it leaves its printers stay open, and then they are gone
 abbrev pub invariant-loop : goal.invariant-loop
 invariant-loop g l = record {
   goes : (events : FloorHistory) × GoesWell
@@ -18,6 +19,11 @@ invariant-loop g l = record {
       (setting l.self (link_states (link_state g.L.Link.kind g.L.Link.past g.L.Link.calls g.L.Link.up g.L.Link.faults) l.links)
       (store_state g.K.Keeper.tables g.K.Keeper.faults g.S.Shelf.files g.S.Shelf.faults l.keeper l.shelf))
       events;
+  made : HaveMade l.counter
+      (setting l.initial.self (link_states (link_state g.L.Link.kind g.L.Link.past g.L.Link.calls g.L.Link.up g.L.Link.faults) l.initial.links)
+      (store_state g.K.Keeper.tables g.K.Keeper.faults g.S.Shelf.files g.S.Shelf.faults l.initial.keeper l.initial.shelf))
+      (setting l.self (link_states (link_state g.L.Link.kind g.L.Link.past g.L.Link.calls g.L.Link.up g.L.Link.faults) l.links)
+      (store_state g.K.Keeper.tables g.K.Keeper.faults g.S.Shelf.files g.S.Shelf.faults l.keeper l.shelf));
   still_open : l.leaves ≡ false → IsOpen l.initial.self → IsOpen l.self;
   leaving : l.leaves ≡ true → IsLeaving l.initial.self l.self;
   used : IsCalled l.counter (link_states (link_state g.L.Link.kind g.L.Link.past g.L.Link.calls g.L.Link.up g.L.Link.faults) l.initial.links) l.self
