@@ -2,11 +2,13 @@
 //!
 //! The calls of `octo` say that a file or an address failed, not why. So it is looked at once more; what isn't found out by that isn't
 //! said.
+use crate::host_links::HostLink;
 use octo_files::{DOOR_FAILED, LINK_FAILED, OUTPUT_FAILED, SOURCE_FAILED, STORE_FAILED};
+use octo_floor::Links;
 use octo_keeper::KeeperFault;
 use octo_outside::{ArgumentsFault, WordList};
 use octo_words::{Command, FilePath, read_words};
-use printer_link_cause::{Cause, cause_words};
+use printer_link_cause::{Cause, WatchedLink, cause_words};
 use printer_link_socket::{names_address, names_port};
 use std::io::{ErrorKind, Read};
 use std::net::TcpListener;
@@ -53,7 +55,9 @@ fn say_of_files(rt: &HostRuntime, command: &Command) {
             }
         }
         Command::Measure { file } | Command::Rest { file, .. } => say_of_file(rt, file),
-        Command::Serve { settings, .. } => say_of_file(rt, settings),
+        Command::Serve { settings, .. } | Command::Floor { settings, .. } => {
+            say_of_file(rt, settings);
+        }
         Command::Demo { .. } => {}
     }
 }
@@ -87,6 +91,27 @@ pub(crate) fn say_of_link(rt: &HostRuntime, words: &WordList, code: u8, cause: C
     if let Ok(command) = read_words(rt.alloc(), words) {
         say_of_cause(rt, &command, cause);
     }
+}
+
+// Says why the link of a floor's printer failed, if it did.
+fn say_of_printer(rt: &HostRuntime, printer: u8, link: &HostLink) {
+    if let Some(cause) = link.cause() {
+        let text = cause_words(cause);
+        let said = str::from_utf8(text.as_slice()).unwrap_or("");
+        let _ = eprintln!(rt; "octo: printer {printer}: {said}");
+    }
+}
+
+// Says why the links of a floor failed that did.
+pub(crate) fn say_of_links(rt: &HostRuntime, links: &Links<HostLink>) {
+    say_of_printer(rt, 0, &links.a);
+    say_of_printer(rt, 1, &links.b);
+    say_of_printer(rt, 2, &links.c);
+    say_of_printer(rt, 3, &links.d);
+    say_of_printer(rt, 4, &links.e);
+    say_of_printer(rt, 5, &links.f);
+    say_of_printer(rt, 6, &links.g);
+    say_of_printer(rt, 7, &links.h);
 }
 
 // Says why the address of a host can't be bound, or that its socket failed.
@@ -126,12 +151,20 @@ pub(crate) fn say_of_database(rt: &HostRuntime, database: &str, fault: KeeperFau
     let _ = eprintln!(rt; "octo: {database}: {said}");
 }
 
-// Says why the folder of a host can't be listed, if it can't.
+// Says why a folder can't be listed, if it can't.
+fn say_of_folder(rt: &HostRuntime, folder: &str) {
+    if let Err(error) = fs::read_dir(rt, folder) {
+        say_of_error(rt, folder, &error);
+    }
+}
+
+// Says why the folder of a host or a floor can't be listed, if it can't.
 fn say_of_store(rt: &HostRuntime, command: &Command) {
-    if let Command::Serve { folder, .. } = command
-        && let Err(error) = fs::read_dir(rt, folder.as_str())
-    {
-        say_of_error(rt, folder.as_str(), &error);
+    match command {
+        Command::Serve { folder, .. } | Command::Floor { folder, .. } => {
+            say_of_folder(rt, folder.as_str());
+        }
+        _ => {}
     }
 }
 

@@ -4,6 +4,13 @@ use octo_outside::{Failed, Sink};
 use octo_outside_doors::{Door, Doors, TcpDoor};
 use std::io::Print;
 
+// Which logs there are: of the calls of keeper, shelf and link, and of what a host or a floor does.
+#[derive(Clone, Copy)]
+pub(crate) struct Logs {
+    pub calls: bool,
+    pub events: bool,
+}
+
 // Doors over TCP whose refusals are logged.
 pub(crate) type HostDoors<R> = Doors<LoggedDoor<TcpDoor<R>, HostLog>>;
 

@@ -1,36 +1,25 @@
-//! A print host for one 3D printer: prints a file over a link to the printer, checks files, and serves the API of a host.
+//! A print host for 3D printers: prints a file over a link to the printer, checks files, serves the API of a host, and prints a queue on a
+//! floor of printers.
 #![tactic(auto)]
 
 ghost use Rattle.std.specs.Prelude.{◌≡◌};
 ghost use Rattle.octo_commands.specs.Commands.{arguments_fault_report};
 
 mod absent;
+mod carrying;
 mod causes;
+mod host_links;
 mod host_log;
+mod hosting;
 mod showing;
 
-use absent::{AbsentKeeper, absent_doors};
-use byte_text::Name;
-use causes::{say_of_arguments, say_of_database, say_of_end, say_of_link};
-use host_log::{HostDoors, HostLog, with_log};
-use octo_commands::octo;
-use octo_files::{OUTPUT_FAILED, Report, SUCCESS, read_settings_of};
-use octo_keeper::{Keeper, settle_prints};
-use octo_keeper_file::{close_keeper, open_keeper};
-use octo_keeper_folder::FolderShelf;
-use octo_log::{LoggedKeeper, LoggedShelf, log_serving, log_stopped};
-use octo_log_link::LoggedLink;
-use octo_outside::{
-    ArgumentsFault, Blob, FileSource, StdSink, SystemClock, WordList, arguments, write_all,
-};
-use octo_outside_bell::{Ear, EarClock, bell_and_ear};
-use octo_outside_doors::{Doors, TcpDoor};
-use octo_serve_command::{HostReport, Opened, write_host_report};
+use carrying::{boot_ms_of, carry_out_unserved, end_with};
+use causes::say_of_arguments;
+use hosting::{floor_with, serve_with};
+use octo_files::{OUTPUT_FAILED, Report, SUCCESS};
+use octo_outside::{ArgumentsFault, Blob, StdSink, WordList, arguments, write_all};
+use octo_serve_command::HostReport;
 use octo_words::{Command, Remark, WordsFault, read_words, remark_on};
-use printer_link_cause::WatchedLink;
-use printer_link_ports::SystemPorts;
-use printer_link_socket::PortLink;
-use showing::{view_of, with_progress};
 use std::alloc::AllocError;
 use std::net::{Net, TcpListener, TcpStream};
 use std::process::ExitCode;
@@ -46,188 +35,6 @@ fn arguments_fault_report(fault: ArgumentsFault) -> HostReport
         ArgumentsFault::NotText => Report::BadWords,
         ArgumentsFault::NoMemory => Report::NoMemory,
     })
-}
-
-// Writes a report, and returns the program's exit status.
-fn end_with(out: &mut StdSink<HostRuntime>, report: &HostReport) -> ExitCode {
-    match write_host_report(out, report) {
-        Ok(()) => ExitCode::from(report.code()),
-        Err(_) => ExitCode::from(OUTPUT_FAILED),
-    }
-}
-
-// How many milliseconds the printer may take to start, if the command's settings say it. Of settings that can't be read the command
-// reports.
-fn boot_ms_of(system: &HostRuntime, command: &Command) -> Option<u16> {
-    let settings = match command {
-        Command::Print {
-            settings: Some(settings),
-            ..
-        } => settings,
-        Command::Serve { settings, .. } => settings,
-        _ => return None,
-    };
-    let mut files = FileSource::new(*system);
-    match read_settings_of(system.alloc(), &mut files, Some(settings.as_str())) {
-        Ok(settings) => settings.boot_ms,
-        Err(_) => None,
-    }
-}
-
-// Carries out the command that the arguments are, over the system's files and sockets, and returns the program's exit status. A host
-// that listens has a log.
-// `rt` starts threads, waits and listens; `system` opens what else the program works with. The program has one handle for both.
-fn carry_out<
-    R: Net<Listener = TcpListener, Stream = TcpStream>
-        + Clock
-        + Threads
-        + Wait
-        + Copy
-        + Send
-        + Sync
-        + Drop,
-    K: Keeper,
->(
-    rt: &R,
-    system: &HostRuntime,
-    words: &WordList,
-    boot_ms: Option<u16>,
-    out: &mut StdSink<HostRuntime>,
-    keeper: &mut K,
-    folder: &Name,
-    doors: &mut HostDoors<R>,
-    is_logged: bool,
-    ear: Ear,
-) -> ExitCode {
-    let mut files = FileSource::new(*system);
-    let ports = SystemPorts::new(*system, system.alloc());
-    let port_link = PortLink::with_ear(ports, boot_ms, ear.copy());
-    let print_link = with_progress(system, view_of(system, words), port_link);
-    let mut link = LoggedLink::new(print_link, HostLog::new(system, is_logged));
-    let mut clock = EarClock::new(*system, ear);
-    let Ok(folder_shelf) = FolderShelf::new(*system, folder) else {
-        return end_with(out, &HostReport::Command(Report::NoMemory));
-    };
-    let mut shelf = LoggedShelf::new(folder_shelf, HostLog::new(system, is_logged));
-    let status = octo(
-        rt,
-        system.alloc(),
-        words,
-        &mut files,
-        &mut link,
-        out,
-        &mut clock,
-        keeper,
-        &mut shelf,
-        doors,
-        HostLog::new(system, is_logged),
-    );
-    say_of_end(system, words, status.code);
-    if let Some(cause) = link.cause() {
-        say_of_link(system, words, status.code, cause);
-    }
-    ExitCode::from(status.code)
-}
-
-// Doors at an address, and an ear for the bell that those ring who serve their connections. Fails if out of memory.
-fn open_doors<R: Net<Listener = TcpListener, Stream = TcpStream> + Copy>(
-    rt: &R,
-    system: &HostRuntime,
-    address: &Name,
-) -> Result<(Doors<TcpDoor<R>>, Ear), AllocError> {
-    let (bell, ear) = bell_and_ear(system, system.alloc())?;
-    let doors = TcpDoor::four(rt, system.alloc(), address.as_str(), &bell)?;
-    Ok((doors, ear))
-}
-
-// Serves at an address, over a folder and a database, which is closed at the end. A database that can't be opened, a missing
-// folder and an address that can't be bound fail at each call.
-//
-// This function alone holds the keeper of a database, so only its proof takes SQLite's types in.
-fn serve_with<
-    R: Net<Listener = TcpListener, Stream = TcpStream>
-        + Clock
-        + Threads
-        + Wait
-        + Copy
-        + Send
-        + Sync
-        + Drop,
->(
-    rt: &R,
-    system: &HostRuntime,
-    words: &WordList,
-    boot_ms: Option<u16>,
-    out: &mut StdSink<HostRuntime>,
-    address: &Name,
-    folder: &Name,
-    database: &Name,
-) -> ExitCode {
-    let Ok((bound, ear)) = open_doors(rt, system, address) else {
-        return end_with(out, &HostReport::Command(Report::NoMemory));
-    };
-    let listens = bound.a.address().is_some();
-    let mut doors = with_log(system, bound, listens);
-    let mut log = HostLog::new(system, listens);
-    let mut keeper = LoggedKeeper::new(
-        Opened::new(open_keeper(system, database)),
-        HostLog::new(system, listens),
-        SystemClock::new(*system),
-    );
-    log_serving(&mut log, address);
-    // If that fails, the host shows those prints as failed all the same.
-    let _ = settle_prints(system.alloc(), &mut keeper);
-    let code = carry_out(
-        rt,
-        system,
-        words,
-        boot_ms,
-        out,
-        &mut keeper,
-        folder,
-        &mut doors,
-        listens,
-        ear,
-    );
-    log_stopped(&mut log);
-    match keeper.into_keeper().into_keeper() {
-        Ok(keeper) => close_keeper(keeper),
-        Err(fault) => say_of_database(system, database.as_str(), fault),
-    }
-    code
-}
-
-// Carries out a command that doesn't serve: it has no database, no folder and no address.
-fn carry_out_unserved<
-    R: Net<Listener = TcpListener, Stream = TcpStream>
-        + Clock
-        + Threads
-        + Wait
-        + Copy
-        + Send
-        + Sync
-        + Drop,
->(
-    rt: &R,
-    system: &HostRuntime,
-    words: &WordList,
-    boot_ms: Option<u16>,
-    out: &mut StdSink<HostRuntime>,
-) -> ExitCode {
-    let mut keeper = AbsentKeeper::new();
-    let mut doors = with_log(system, absent_doors(rt), false);
-    carry_out(
-        rt,
-        system,
-        words,
-        boot_ms,
-        out,
-        &mut keeper,
-        &Name::new(),
-        &mut doors,
-        false,
-        Ear::deaf(),
-    )
 }
 
 // Carries out this command, which the arguments are.
@@ -255,6 +62,11 @@ fn carry_out_command<
             database,
             ..
         } => serve_with(rt, system, words, boot_ms, out, address, folder, database),
+        Command::Floor {
+            folder,
+            database,
+            ..
+        } => floor_with(rt, system, words, boot_ms, out, folder, database),
         _ => carry_out_unserved(rt, system, words, boot_ms, out),
     }
 }

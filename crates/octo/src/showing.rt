@@ -18,6 +18,12 @@ pub(crate) struct PrintView {
     pub(crate) total: Option<u32>,
 }
 
+// That of a command whose progress isn't shown.
+pub(crate) const UNSEEN: PrintView = PrintView {
+    showing: Showing::Off,
+    total: None,
+};
+
 // In place if the standard error is a terminal; otherwise by tenths if the arguments ask for it.
 fn showing_of(system: &HostRuntime, words: &WordList) -> Showing {
     if system.stderr().is_terminal() {
@@ -59,10 +65,7 @@ fn view_of_file(system: &HostRuntime, words: &WordList, file: &FilePath) -> Prin
 pub(crate) fn view_of(system: &HostRuntime, words: &WordList) -> PrintView {
     match read_words(system.alloc(), words) {
         Ok(Command::Print { file, .. }) => view_of_file(system, words, &file),
-        _ => PrintView {
-            showing: Showing::Off,
-            total: None,
-        },
+        _ => UNSEEN,
     }
 }
 

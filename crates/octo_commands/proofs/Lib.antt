@@ -1,3 +1,4 @@
+mod Ended
 mod Printed
 mod Recorded
 mod Refusals

@@ -1,8 +1,10 @@
 -- What a print with enough turns reports.
-use Rattle.std.proofs.Common.{◌≡◌, refl, inl, inr, ℕ, false, List, Option, None, Some, Result, Ok, Err, sym, ◌∙◌, ap, subst}
+use Rattle.std.proofs.Common.{◌≡◌, ◌⊎◌, refl, inl, inr, ℕ, false, List, Option, None, Some, Result, Ok, Err, sym, ◌∙◌, ap, subst}
 use Rattle.std.specs.Prelude.{IsUtf8}
 use Rattle.std.proofs.lemmas.Option.{same_Some}
+use Rattle.octo_outside.specs.Recorded.{Rose, Steady}
 use Rattle.octo_outside.specs.Traits.{Files}
+use Rattle.octo_outside.proofs.Recorded.{steady_not_rose}
 use Rattle.gcode_lines.specs.Job.{JobData}
 use Rattle.temp_rules.specs.declared.limits.Limits.{Limits}
 use Rattle.printer_link.specs.Link.{LinkKind}
@@ -17,10 +19,14 @@ use Rattle.octo_files.specs.declared.report.Report.TheVariants as report
 use Rattle.octo_files.specs.Jobs.{job_in}
 use Rattle.octo_files.specs.Reading.{IsHeld, IsTrouble}
 use Rattle.octo_files.specs.Settings.{HaveSettings, settings_or}
+use Rattle.octo_files.specs.Status.{code_of}
 use Rattle.octo_commands_print.specs.Printing.{Seen, HaveJob, Reads, UseSettings, no_settings, no_job, both, Follows, IsRun, print_end_report, over_port}
-use Rattle.octo_commands.specs.Commands.{Comes, out_of_memory, no_command, carried_out, hosted, hosted_by, Reports, seen_in}
+use Rattle.octo_commands.specs.Commands.{Comes, out_of_memory, no_command, carried_out, hosted, hosted_by, IsWritten, Reports, seen_in}
+use Rattle.octo_commands.specs.Floors.{floor_in_words}
+use Rattle.octo_commands.proofs.Ended.{floor_of_command}
 use Rattle.hand_over.specs.Ends.{HistoryData}
 use Rattle.octo_serve_command.specs.Hosting.{Around}
+use Rattle.octo_serve_command.specs.Reports.{host_code}
 use Rattle.octo_serve_command.specs.declared.report.HostReport.{HostReport}
 use Rattle.octo_serve_command.specs.declared.report.HostReport.TheVariants as host
 use Rattle.octo_commands.specs.Enough.{Holds, GiveSettings, HasEnough, IsPrinted}
@@ -144,3 +150,16 @@ comes_printed words files old new r known e sure (hosted asked settings is by ho
     let same = same_Some asked (command.Print e.port e.file e.turns e.settings false) (sym is ∙ e.asked) in
     let no : None ≡ Some settings = sym (ap hosted_by same) ∙ by in
     absurd (cc)
+
+-- the status of such a print
+pub printed_code : (job : JobData) (r : HostReport) (code : ℕ) (out out' : Option (List ℕ)) (faults faults' : ℕ) → EndsPrinted job r → IsWritten r code out out'
+    → (code ≡ 8 → Rose faults faults') → Steady faults faults' → (code ≡ 0) ⊎ (code ≡ 11)
+printed_code job r code out out' faults faults' (plain, is, inl done) (inl written) rose steady =
+    inl (written.0 ∙ ap host_code is ∙ ap code_of done)
+printed_code job r code out out' faults faults' (plain, is, inr none) (inl written) rose steady =
+    inr (written.0 ∙ ap host_code is ∙ ap code_of none)
+printed_code job r code out out' faults faults' printed (inr failed) rose steady = absurd (steady_not_rose faults faults' steady (rose failed.0))
+
+-- its arguments ask for no floor
+pub prints_alone : (words : List (List ℕ)) (kind : LinkKind) (files : Option Files) (h : Seen) → HasEnough words kind files h → floor_in_words words ≡ None
+prints_alone words kind files h e = floor_of_command words (command.Print e.port e.file e.turns e.settings false) e.asked

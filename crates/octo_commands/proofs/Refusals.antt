@@ -22,7 +22,7 @@ other_settings settings.NoMemory is = let bad : 11 ≡ 8 = is in absurd (omega a
 no_refusal : false ≡ true → ⊥
 no_refusal is = absurd (cc)
 
-other_report : (r : Report) → is_settings_refusal r ≡ true → code_of r ≡ 8 → ⊥
+pub other_report : (r : Report) → is_settings_refusal r ≡ true → code_of r ≡ 8 → ⊥
 other_report (report.BadSettings fault) refusal is = other_settings fault is
 other_report report.SourceFailed refusal is = let bad : 4 ≡ 8 = is in absurd (omega arith)
 other_report report.NoMemory refusal is = let bad : 11 ≡ 8 = is in absurd (omega arith)

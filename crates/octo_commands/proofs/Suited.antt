@@ -29,6 +29,7 @@ host_makes files (command.Check file by) settings s is have = absurd (cc)
 host_makes files (command.Demo seed commands lost) settings s is have = absurd (cc)
 host_makes files (command.Measure file) settings s is have = absurd (cc)
 host_makes files (command.Rest file from) settings s is have = absurd (cc)
+host_makes files (command.Floor folder database by turns) settings s is have = absurd (cc)
 host_makes files (command.Serve address folder database by) settings s is have =
     let H : List ℕ → Type 0 = λ name. HaveSettings files (Some name) (Ok s) in
     subst H (sym (same_Some by settings is)) have

@@ -67,7 +67,7 @@ pub record IsSummary (seed commands : ℕ) (lost : Option (List ℕ)) (r : Repor
   pub code : code_of r ≡ status_of demo.end
   pub text : report_text r ≡ summary_of seed commands (counts_of demo.link) (status_of demo.end)
 
--- what a command that doesn't serve reports; only a print adds to the history of the link
+-- what a command that neither serves nor runs a floor reports; only a print adds to the history of the link
 abbrev pub Reports : LinkKind → Option Files → Seen → Command → Report → Type 0
 Reports kind files h (command.Print port file turns settings sure) r =
     IsFilePrint kind files settings sure file (over_port port turns) h r
@@ -79,6 +79,7 @@ Reports kind files h (command.Measure file) r =
 Reports kind files h (command.Rest file from) r =
     Given files file r (λ bytes. IsRestReport from bytes r) × (h.now ≡ h.first)
 Reports kind files h (command.Serve address folder database settings) r = ⊥
+Reports kind files h (command.Floor folder database settings turns) r = ⊥
 
 -- a print that is reported with no answer waited five limits of its settings, by a clock that showed `began` before and `now` after
 abbrev pub HasWaitedFor : Option Files → Option ℕ → Option ℕ → Command → Report → Type 0

@@ -1,6 +1,7 @@
-//! The commands of the print host as one call, over any files, link, output, clock, keeper, shelf and doors.
+//! The commands of the print host as one call, over any files, links, output, clock, keeper, shelf and doors.
 #![tactic(auto)]
 
+mod carrying;
 mod demo;
 mod run;
 

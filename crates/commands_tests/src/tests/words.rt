@@ -75,6 +75,17 @@ fn text_of(alloc: Global, command: &Command) -> Result<String, AllocError> {
             database.as_str(),
             settings.as_str()
         ),
+        Command::Floor {
+            folder,
+            database,
+            settings,
+            turns,
+        } => format!(in alloc;
+            "floor {} {} {} {turns}",
+            folder.as_str(),
+            database.as_str(),
+            settings.as_str()
+        ),
     }
 }
 
@@ -128,6 +139,8 @@ fn options_anywhere(rt: HostRuntime) -> Result<(), Fail> {
         ("serve a f d --settings s", "serve a f d s"),
         ("serve --settings=s a f d", "serve a f d s"),
         ("serve a f --settings s d", "serve a f d s"),
+        ("floor f d --settings s", "floor f d s 1000000000"),
+        ("floor --turns=5 f --settings=s d", "floor f d s 5"),
     ];
     reads(&rt, rt.alloc(), rows.as_slice())
 }
@@ -163,6 +176,7 @@ fn hyphens_taken(rt: HostRuntime) -> Result<(), Fail> {
         ("serve - f d --settings=-s", "serve - f d -s"),
         ("serve --settings s -- -a -f -d", "serve -a -f -d s"),
         ("serve a f d --settings=", "serve a f d "),
+        ("floor --settings s -- -f -d", "floor -f -d s 1000000000"),
     ];
     reads(&rt, rt.alloc(), rows.as_slice())
 }
@@ -247,6 +261,10 @@ fn options_refused(rt: HostRuntime) -> Result<(), Fail> {
         "serve a f d --settings s --settings s",
         "serve a f d --settings s --turns 5",
         "--settings s serve a f d",
+        "floor f d",
+        "floor f d --settings s --settings s",
+        "floor f d --settings s --turns 0",
+        "floor f d --settings s --turns 4000000000001",
     ];
     refuses(&rt, rt.alloc(), lines.as_slice())
 }
@@ -272,6 +290,11 @@ fn operands_refused(rt: HostRuntime) -> Result<(), Fail> {
         "serve  f d --settings s",
         "serve a  d --settings s",
         "serve a f  --settings s",
+        "floor",
+        "floor f --settings s",
+        "floor f d e --settings s",
+        "floor  d --settings s",
+        "floor f  --settings s",
         "-- print p a",
         "print -- p a --turns=5",
         "Print p a",
@@ -316,6 +339,8 @@ fn longer_names(rt: HostRuntime) -> Result<(), Fail> {
         ("serve", " f d --settings s"),
         ("serve a", " d --settings s"),
         ("serve a f", " --settings s"),
+        ("floor", " d --settings s"),
+        ("floor f", " --settings s"),
     ] {
         let line = format!(in rt.alloc(); "{before} {name}x{after}")?;
         refuses(&rt, rt.alloc(), &[line.as_str()])?;

@@ -1,10 +1,12 @@
 //! Whole commands over files, a link, doors and an output in memory. Out of memory, a test stops.
 ghost use Rattle.std.specs.Prelude.{◌≡◌, false, true, IfSome};
+ghost use Rattle.octo_floor_command.specs.Links.{EachLink};
 ghost use Rattle.printer_link.specs.Memory.{link_world};
 
 mod rows;
 
 use octo_commands::{Status, octo};
+use octo_floor::Links;
 use octo_keeper::{MemoryKeeper, MemoryShelf};
 use octo_outside::{CallList, MemoryClock, MemorySink, MemorySource, WordList};
 use octo_outside_doors::{Doors, MemoryDoor};
@@ -13,7 +15,7 @@ use std::alloc::Global;
 use std::process::Abort;
 use std::sync::Wait;
 use std::thread::Threads;
-use test_makers::{calls, door_of, keeper_of, no_rows, ports, shelf_of};
+use test_makers::{calls, door_of, keeper_of, link_at, no_rows, ports, shelf_of};
 
 // A printer at port p with 4 buffer slots and the last number 4. Its `ok`s have numbers and none is lost, which suits a host that
 // counts them as well as one that reads their numbers.
@@ -65,6 +67,33 @@ fn doors(alloc: Global, inputs: &[&[u8]]) -> Option<Doors<MemoryDoor>> {
     })
 }
 
+// A link of a floor, which no command here uses.
+fn floor_link(rt: &impl Abort, alloc: Global) -> MemoryLink
+    ensures down { (link_world result).linked ≡ false }
+    ensures plain { result.story.oks.lost ≡ false }
+    ensures numbered { result.story.oks.numbered ≡ true }
+{
+    link_at(alloc, "p", FateList::new(alloc)).expect(rt, "no memory")
+}
+
+// The links of a floor.
+fn floor_links(rt: &impl Abort, alloc: Global) -> Links<MemoryLink>
+    ensures down { EachLink (λ link. (link_world link).linked ≡ false) result }
+    ensures plain { EachLink (λ link. link.story.oks.lost ≡ false) result }
+    ensures numbered { EachLink (λ link. link.story.oks.numbered ≡ true) result }
+{
+    Links {
+        a: floor_link(rt, alloc),
+        b: floor_link(rt, alloc),
+        c: floor_link(rt, alloc),
+        d: floor_link(rt, alloc),
+        e: floor_link(rt, alloc),
+        f: floor_link(rt, alloc),
+        g: floor_link(rt, alloc),
+        h: floor_link(rt, alloc),
+    }
+}
+
 // Where a host keeps what it has, and where it is called.
 #[derive(Drop)]
 struct HostParts {
@@ -107,7 +136,7 @@ impl Bench {
         }
     }
 
-    fn carry_out<R: Threads + Wait + Clone + Send + Sync + Drop>(
+    fn carry_out<R: Threads + Wait + Abort + Clone + Send + Sync + Drop>(
         &mut self,
         rt: &R,
         alloc: Global,
@@ -129,6 +158,7 @@ impl Bench {
             &mut self.host.shelf,
             &mut self.host.doors,
             MemorySink::new(alloc, CallList::new(alloc)),
+            &mut floor_links(rt, alloc),
         )
     }
 

@@ -15,7 +15,7 @@ fn said(alloc: Global, line: &str) -> Result<(bool, Vec<u8>), Fail> {
 
 #[test]
 fn what_is_wrong(rt: HostRuntime) -> Result<(), Fail> {
-    let rows: [(&str, &[u8]); 11] = [
+    let rows: [(&str, &[u8]); 13] = [
         (
             "print p",
             b"octo: the following required arguments were not provided:  <file>\n",
@@ -56,6 +56,14 @@ fn what_is_wrong(rt: HostRuntime) -> Result<(), Fail> {
         (
             "serve a  d --settings s",
             b"octo: folder has to be a text of 1 to 100 bytes, not: \n",
+        ),
+        (
+            "floor f  --settings s",
+            b"octo: database has to be a text of 1 to 100 bytes, not: \n",
+        ),
+        (
+            "floor f d --settings s --turns 0",
+            b"octo: turns has to be a number from 1 to 4000000000000, not: 0\n",
         ),
     ];
     for (line, wanted) in rows {

@@ -1,33 +1,74 @@
-use Rattle.std.proofs.Common.{◌≡◌, ◌⊎◌, refl, inl, inr, ◌∙◌, ap}
 use Rattle.octo_outside.proofs.Recorded.{steady_not_rose}
-use Rattle.octo_files.specs.Status.{code_of}
-use Rattle.octo_serve.specs.Around.{link_state, keeper_state, shelf_state, door_state}
-use Rattle.octo_serve_command.specs.Hosting.{around}
-use Rattle.octo_serve_command.specs.Reports.{host_code}
-use Rattle.octo_commands.proofs.Printed.{EndsPrinted, comes_printed}
+use Rattle.octo_commands.proofs.Ended.{asked_same, asks_none, asks_one, asks_them, floor_ended, host_ended, no_memory_ended, other_floor, words_ended, words_may}
+use Rattle.octo_commands.proofs.Printed.{comes_printed, printed_code, prints_alone}
 use Rattle.octo_commands.proofs.run.octo.Goals as goal
 
-pub returns-in-Ok-clause-comes : goal.returns-in-Ok-clause-comes
-returns-in-Ok-clause-comes g c =
-    (c.run-report.result.report, c.run-report.ensures.comes, c.run-report.ensures.causes, inl (c.code.ensures, c.in-Ok.ensures.ok))
+-- arguments that are no command
+pub returns-in-Err-clause-comes : goal.returns-in-Err-clause-comes
+returns-in-Err-clause-comes g c alone =
+    words_ended _ _ _ _ c.in-Err.fault c.words_fault_end.result _ _ _ _ c.words_fault_end.ensures c.end_host.ensures.history c.in-Err.ensures.read
+    c.end_host.ensures.written
 
+pub returns-in-Err-clause-floors : goal.returns-in-Err-clause-floors
+returns-in-Err-clause-floors g c asked is =
+    no_memory_ended _ _ asked _ _ c.in-Err.fault c.words_fault_end.result _ _ _ _ is c.words_fault_end.ensures c.end_host.ensures.floor c.in-Err.ensures.read
+    c.end_host.ensures.written
+
+pub end_host-requires : goal.end_host-requires
+end_host-requires g c = words_may c.in-Err.fault c.words_fault_end.result c.words_fault_end.ensures
+
+pub returns-in-Err-clause-prompt : goal.returns-in-Err-clause-prompt
+returns-in-Err-clause-prompt g c e steady written =
+    let ended = returns-in-Err-clause-comes g c (prints_alone _ _ _ _ e) in
+    printed_code e.job ended.0 _ _ _ _ _
+    (comes_printed _ _ _ _ ended.0 _ e (λ failed. steady_not_rose _ _ steady (ended.2.source_failed failed)) ended.1) ended.3
+    c.end_host.ensures.sink.rose written
+
+-- a floor
+pub returns-in-Some-clause-comes : goal.returns-in-Some-clause-comes
+returns-in-Some-clause-comes g c none =
+    absurd (asks_one _ c.in-Ok.command c.in-Ok.ensures.read (c.in-Some.settings.now, c.in-Some.turns) c.in-Some.ensures none)
+
+pub returns-in-Some-clause-no_floor : goal.returns-in-Some-clause-no_floor
+returns-in-Some-clause-no_floor g c none =
+    absurd (asks_one _ c.in-Ok.command c.in-Ok.ensures.read (c.in-Some.settings.now, c.in-Some.turns) c.in-Some.ensures none)
+
+pub returns-in-Some-clause-floors : goal.returns-in-Some-clause-floors
+returns-in-Some-clause-floors g c asked is =
+    floor_ended _ asked (c.in-Some.settings.now, c.in-Some.turns) _ _ _ _ c.run_floor-done.result.report c.run_floor-done.result.floor _ _ _ _
+    (asked_same _ c.in-Ok.command c.in-Ok.ensures.read asked (c.in-Some.settings.now, c.in-Some.turns) c.in-Some.ensures is) c.end_floor.ensures.floor
+    c.run_floor-done.ensures.floors c.run_floor-done.ensures.source.rose c.run_floor-done.ensures.causes c.end_floor.ensures.written
+
+pub returns-in-Some-clause-prompt : goal.returns-in-Some-clause-prompt
+returns-in-Some-clause-prompt g c e steady written =
+    absurd (asks_one _ c.in-Ok.command c.in-Ok.ensures.read (c.in-Some.settings.now, c.in-Some.turns) c.in-Some.ensures (prints_alone _ _ _ _ e))
+
+pub run_floor-done-requires-clause-suits : goal.run_floor-done-requires-clause-suits
+run_floor-done-requires-clause-suits g c κs lives =
+    c.requires.links_suit (c.in-Some.settings.now, c.in-Some.turns)
+    (asks_them _ c.in-Ok.command c.in-Ok.ensures.read (c.in-Some.settings.now, c.in-Some.turns) c.in-Some.ensures)
+
+pub end_floor-requires : goal.end_floor-requires
+end_floor-requires g c = other_floor c.run_floor-done.result.report c.run_floor-done.ensures.refusal
+
+-- another command
 pub returns-clause-comes : goal.returns-clause-comes
-returns-clause-comes g c =
-    (c.run-report.result.report, c.run-report.ensures.comes, c.run-report.ensures.causes, inr (refl, c.in-Err.ensures.err))
+returns-clause-comes g c alone =
+    host_ended _ _ _ _ _ _ c.run-end.result.report c.run-end.result.history _ _ _ _ c.end_host-in-None.ensures.history
+    (c.run-end.ensures.comes _ c.in-Ok.ensures.read) c.run-end.ensures.causes c.end_host-in-None.ensures.written
 
-pub returns-in-Ok-clause-prompt : goal.returns-in-Ok-clause-prompt
-returns-in-Ok-clause-prompt g c e steady written =
-    let link_at = link_state g.L.Link.kind g.L.Link.past g.L.Link.calls g.L.Link.up g.L.Link.faults in
-    let doors_at = door_state g.D.Door.coming g.D.Door.served g.D.Door.faults in
-    let at = around link_at g.T.Clock.moment (keeper_state g.K.Keeper.tables g.K.Keeper.faults) (shelf_state g.S.Shelf.files g.S.Shelf.faults) doors_at in
-    let x = c.run-report in
-    by (comes_printed c.args.words.now (g.F.Source.files c.args.files.now) (at c.args.link.now c.args.clock.now c.args.keeper.now c.args.shelf.now c.args.doors.now)
-    (at x.new.link x.new.clock x.new.keeper x.new.shelf x.new.doors) x.result.report x.result.history e
-    (λ failed. steady_not_rose _ _ steady (x.ensures.causes.source_failed failed)) x.ensures.comes)
-  where
-    by : EndsPrinted e.job c.run-report.result.report → (c.code.result ≡ 0) ⊎ (c.code.result ≡ 11)
-    by (plain, is, inl done) = inl (c.code.ensures ∙ ap host_code is ∙ ap code_of done)
-    by (plain, is, inr none) = inr (c.code.ensures ∙ ap host_code is ∙ ap code_of none)
+pub returns-clause-floors : goal.returns-clause-floors
+returns-clause-floors g c asked is = absurd (asks_none _ c.in-Ok.command c.in-Ok.ensures.read asked c.in-None.ensures is)
+
+pub returns-clause-floor_alone : goal.returns-clause-floor_alone
+returns-clause-floor_alone g c asked is = absurd (asks_none _ c.in-Ok.command c.in-Ok.ensures.read asked c.in-None.ensures is)
 
 pub returns-clause-prompt : goal.returns-clause-prompt
-returns-clause-prompt g c e steady written = absurd (steady_not_rose _ _ written (c.in-Err.ensures.counts.rose refl))
+returns-clause-prompt g c e steady written =
+    printed_code e.job c.run-end.result.report _ _ _ _ _
+    (comes_printed _ _ _ _ c.run-end.result.report c.run-end.result.history e
+    (λ failed. steady_not_rose _ _ steady (c.run-end.ensures.causes.source_failed failed)) (c.run-end.ensures.comes _ c.in-Ok.ensures.read))
+    c.end_host-in-None.ensures.written c.end_host-in-None.ensures.sink.rose written
+
+pub run-end-requires-clause-suits : goal.run-end-requires-clause-suits
+run-end-requires-clause-suits g c κs lives past is = c.requires.suits past is c.in-Ok.command c.in-Ok.ensures.read

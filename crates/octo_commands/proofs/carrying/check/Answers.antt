@@ -3,7 +3,7 @@ use Rattle.octo_files.specs.Settings.{HaveSettings}
 use Rattle.octo_files.specs.Checks.{check_report}
 use Rattle.octo_commands.specs.Commands.{Given, checked}
 use Rattle.std.proofs.Common.{◌≡◌}
-use Rattle.octo_commands.proofs.run.check.Goals as goal
+use Rattle.octo_commands.proofs.carrying.check.Goals as goal
 
 pub returns-in-Ok-clause-check : goal.returns-in-Ok-clause-check
 returns-in-Ok-clause-check g c =

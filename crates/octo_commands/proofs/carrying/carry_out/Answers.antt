@@ -3,7 +3,7 @@ use Rattle.octo_commands_print.specs.Printing.{seen_of}
 use Rattle.octo_commands.specs.Commands.{Reports}
 use Rattle.octo_commands.proofs.Recorded.{print_recorded}
 use Rattle.octo_commands.proofs.Suited.{print_suits}
-use Rattle.octo_commands.proofs.run.carry_out.Goals as goal
+use Rattle.octo_commands.proofs.carrying.carry_out.Goals as goal
 
 pub returns-in-Check-clause-reports : goal.returns-in-Check-clause-reports
 returns-in-Check-clause-reports g c =

@@ -5,11 +5,11 @@ use Rattle.octo_serve.specs.Around.{link_state}
 use Rattle.octo_commands.specs.Commands.{carried_out, hosted}
 use Rattle.octo_commands.proofs.Refusals.{other_host}
 use Rattle.octo_commands.proofs.Suited.{host_suits}
-use Rattle.octo_commands.proofs.run.run.Goals as goal
+use Rattle.octo_commands.proofs.carrying.run.Goals as goal
 
 pub returns-in-Some-clause-comes : goal.returns-in-Some-clause-comes
-returns-in-Some-clause-comes g c =
-    hosted c.in-Ok.command c.in-Some.settings.now c.in-Ok.ensures.read (sym c.in-Some.ensures) c.host.ensures.hosts
+returns-in-Some-clause-comes g c words read =
+    hosted c.args.command.now c.in-Some.settings.now read (sym c.in-Some.ensures) c.host.ensures.hosts
 
 pub returns-in-Some-clause-causes : goal.returns-in-Some-clause-causes
 returns-in-Some-clause-causes g c = record {
@@ -23,8 +23,8 @@ pub returns-in-Some-clause-output : goal.returns-in-Some-clause-output
 returns-in-Some-clause-output g c = other_host c.host.result.report c.host.ensures.refusal
 
 pub returns-in-None-clause-comes : goal.returns-in-None-clause-comes
-returns-in-None-clause-comes g c =
-    carried_out c.in-Ok.command c.carry_out-report.result c.in-Ok.ensures.read (ap (λ (h : HostEnd). h.report) c.unserved.ensures)
+returns-in-None-clause-comes g c words read =
+    carried_out c.args.command.now c.carry_out-report.result read (ap (λ (h : HostEnd). h.report) c.unserved.ensures)
     c.carry_out-report.ensures.reports c.carry_out-report.ensures.waited
     (record {
       keeper = refl;
@@ -39,7 +39,4 @@ returns-in-None-clause-comes g c =
 
 pub host-requires-clause-suits : goal.host-requires-clause-suits
 host-requires-clause-suits g c κs lives =
-    host_suits _ _ _ c.in-Ok.command c.in-Some.settings.now (sym c.in-Some.ensures) (λ past is. c.requires.suits past is c.in-Ok.command c.in-Ok.ensures.read)
-
-pub carry_out-report-requires-clause-suits : goal.carry_out-report-requires-clause-suits
-carry_out-report-requires-clause-suits g c past is = c.requires.suits past is c.in-Ok.command c.in-Ok.ensures.read
+    host_suits _ _ _ c.args.command.now c.in-Some.settings.now (sym c.in-Some.ensures) c.requires.suits

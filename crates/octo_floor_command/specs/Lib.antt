@@ -1,0 +1,5 @@
+pub mod Beginning
+pub mod Links
+pub mod Reports
+pub mod Running
+pub mod Settings
