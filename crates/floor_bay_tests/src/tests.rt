@@ -1,0 +1,3 @@
+//! One printer, and what the printers share.
+mod printer;
+mod stock;
