@@ -1,6 +1,7 @@
 """Checks of crates by the kit's prover, and the libraries on which they stand, as scripts/wrong needs them."""
 import collections
 import concurrent.futures
+import functools
 import hashlib
 import importlib.machinery
 import importlib.util
@@ -35,6 +36,9 @@ def load_rt():
     made = importlib.util.module_from_spec(importlib.util.spec_from_loader("rtlib", loader))
     sys.modules["rtlib"] = made
     loader.exec_module(made)
+    # A library lies below many crates, and its files don't change meanwhile.
+    made.Crate.stamp = functools.cache(made.Crate.stamp)
+    made.Crate.below = functools.cache(made.Crate.below)
     return made
 
 

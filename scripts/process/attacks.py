@@ -6,6 +6,7 @@ import resource
 import select
 import socket
 import struct
+import subprocess
 import sys
 import threading
 import time
@@ -25,6 +26,9 @@ LONG = 4096
 MOST_BODY = 68_157_440
 # The most resident memory that strangers' uploads may lead to, in bytes.
 MOST_PEAK = 32 << 20
+# The errors of a call of accept that pass.
+PASSING = """EMFILE ENFILE ENOBUFS ENOMEM ECONNABORTED EPERM EPROTO ENOPROTOOPT EOPNOTSUPP ENETDOWN ENETUNREACH EHOSTDOWN EHOSTUNREACH
+ENONET""".split()
 REFUSED = {400, 404, 405, 408, 411, 413, 415, 431}
 failed = False
 
@@ -388,10 +392,10 @@ def half_closed(host):
 
 
 def many(host):
-    """2,000 connections one after the other, and as many at the same time, of which the door keeps few."""
-    for _ in range(2000):
+    """10,000 connections one after the other, and 2,000 at the same time, of which the door keeps few."""
+    for _ in range(10000):
         connect(host).close()
-    check("2,000 connections, one after the other", answers(host))
+    check("10,000 connections, one after the other", answers(host))
     # The process has a few more descriptors than these.
     most = resource.getrlimit(resource.RLIMIT_NOFILE)[0]
     held = [connect(host) for _ in range(min(2000, most - 50))]
@@ -420,9 +424,43 @@ def connections(folder):
         host.kill()
 
 
+def threads(host, is_kept=lambda status: True):
+    """The number of its threads, the house's and the workers', or of those whose status is as asked."""
+    folder = "/proc/%d/task" % host.process.pid
+    return sum(is_kept(open("%s/%s/status" % (folder, it)).read()) for it in os.listdir(folder))
+
+
+def failing(host, error):
+    """The status of a request while the first calls of accept of each thread fail by this error."""
+    words = ["strace", "-f", "-o", os.devnull, "-e", "trace=accept4", "-e", "inject=accept4:error=%s:when=1..4" % error]
+    strace = subprocess.Popen([*words, "-p", str(host.process.pid)], stderr=subprocess.DEVNULL)
+    try:
+        until("strace has all threads", lambda: threads(host, lambda status: "TracerPid:\t%d\n" % strace.pid in status) == 5, 10)
+        return host.ask("GET", "/api/version", seconds=20).status
+    finally:
+        strace.terminate()
+        strace.wait()
+
+
+def accepts(folder):
+    """A failing accept ends no worker if its error passes."""
+    host = Host(folder, 1)
+    host.errors = os.path.join(folder, "errors")
+    host.start()
+    try:
+        for error in PASSING:
+            found = failing(host, error), threads(host)
+            check("four workers and a reply after " + error, found == (200, 5), found)
+        status, text = host.shut_down()
+        check("the host ends as asked", status == 0, (status, text))
+    finally:
+        host.kill()
+
+
 began = time.monotonic()
 with_folder(messages)
 with_folder(connections)
+with_folder(accepts)
 with_folder(strangers)
 with_folder(keys)
 took = time.monotonic() - began

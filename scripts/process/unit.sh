@@ -1,5 +1,6 @@
 #!/bin/sh
-# The service's unit in docs/SERVING.md is read by systemd, and its exposure is below 4 of 10.
+# The service's unit in docs/SERVING.md is read by systemd, and its exposure is below 4 of 10. Those of a floor in docs/FLOOR.md are read by
+# systemd without a complaint, but for programs that this machine doesn't have.
 set -u
 cd "$(dirname "$0")/../.." || exit 2
 if ! command -v systemd-analyze >/dev/null; then
@@ -22,3 +23,21 @@ case $exposure in
     exit 1
     ;;
 esac
+
+# The lines of a unit from its description on
+unit_from() {
+    echo '[Unit]'
+    sed -n "/^    Description=$1\$/,/^    $2/s/^ \{0,4\}//p" docs/FLOOR.md
+}
+unit_from 'Print the queue on all printers' PrivateTmp= >"$work/octo-floor.service"
+unit_from 'Print the queue in the evening' WantedBy= >"$work/octo-floor.timer"
+systemd-analyze verify "$work/octo-floor.service" "$work/octo-floor.timer" >"$work/said" 2>&1
+if grep -v 'is not executable: No such file or directory$' "$work/said"; then
+    echo "failed: the units of a floor"
+    exit 1
+fi
+if ! grep -q '^ExecStart=' "$work/octo-floor.service" || ! grep -q '^OnCalendar=' "$work/octo-floor.timer"; then
+    echo "failed: docs/FLOOR.md doesn't have the units of a floor"
+    exit 1
+fi
+echo "ok: the units of a floor are read without a complaint"
