@@ -131,6 +131,20 @@ def idle(octo, what):
     print("idle for 10 s, %s: %.2f %% of a core (aim 1 %%); load %s" % (what, 100 * used, load()))
 
 
+def waiting(octo):
+    """The processor's time beside 8 callers that wait for the house: its thread, the process's first one, rests for 0.3 seconds before each poll."""
+    words = ["strace", "-o", os.devnull, "-e", "trace=poll", "-e", "inject=poll:delay_enter=300000", "-p", str(octo.process.pid)]
+    house = subprocess.Popen(words, stderr=subprocess.DEVNULL)
+    status = "/proc/%d/task/%d/status" % (octo.process.pid, octo.process.pid)
+    until("strace has the house", lambda: "TracerPid:\t%d\n" % house.pid in open(status).read())
+    before, began = processor(octo.process.pid), time.monotonic()
+    loads = Load(octo.port, "200", "/api/version", octo.key, 5)
+    used = (processor(octo.process.pid) - before) / (time.monotonic() - began)
+    house.terminate()
+    house.wait()
+    print("8 callers that wait for a house that rests: %s, %.3f of a core (aim 0.3); load %s" % (loads, used, load()))
+
+
 def print_rate(octo, name):
     """Lines a second of a print of some seconds."""
     content = b"".join(b"G1 X%03d Y%03d E%d\n" % (n % 200, n * 7 % 200, n % 10) for n in range(6000))
@@ -171,6 +185,7 @@ def main():
         asked(silent, "a silent printer", 8, "aims 8,000 a second and p99 5 ms")
         asked(silent, "a silent printer", 1, "aim 2,500 a second")
         idle(silent, "a silent printer")
+        waiting(silent)
         paced.connect()
         prints(paced)
     finally:

@@ -25,24 +25,29 @@ LARGE = 64 * 1024 * 1024
 LINE = b"G1 X100 Y100 E1\n"
 # The lines of a print, and after how many seconds it is cancelled.
 LINES, SECONDS = 6000, 15
+SLOWLY = "60 silent connections, 16 messages that come byte by byte and 8 slow readers"
 
 
 class Callers:
-    """Some callers that ask the same again and again, until they are ended. They are a process of their own: the printer is in this one."""
+    """Processes that ask again and again, until they are ended. The printer is in this one."""
 
-    def __init__(self, octo, path, count):
-        words = [os.path.join(FOLDER, "plain_load"), str(octo.port), str(count), "60", "200", path, octo.key]
-        self.process = subprocess.Popen(words, stdout=subprocess.DEVNULL)
+    def __init__(self, *commands):
+        self.processes = [subprocess.Popen(words, stdout=subprocess.DEVNULL) for words in commands]
 
     def end(self):
-        self.process.kill()
-        self.process.wait()
+        for process in self.processes:
+            if process.poll() is not None:
+                raise SystemExit("a caller has ended by itself: %r" % process.args)
+            process.kill()
+            process.wait()
 
 
-class Uploads:
-    """Some callers that store a file of 64 MiB again and again, until they are ended; each in a process of its own."""
+def readers(octo, path, count):
+    return Callers([os.path.join(FOLDER, "plain_load"), str(octo.port), str(count), "60", "200", path, octo.key])
 
-    CODE = """
+
+# Stores a file of 64 MiB again and again. Words: the port, the key, the file.
+UPLOADS = """
 import socket, sys
 sys.path.insert(0, "scripts/lib")
 from serving import form, message
@@ -55,42 +60,76 @@ while True:
         assert reply.startswith(b"HTTP/1.1 201 "), reply[:200]
 """
 
-    def __init__(self, octo, _, count):
-        words = [sys.executable, "-c", self.CODE, str(octo.port), octo.key]
-        self.processes = [subprocess.Popen([*words, "upload-%d.gcode" % number]) for number in range(count)]
+# Begins to store such a file, with a key that names nobody, again and again, and looks for the refusal after each 64 KiB, as curl does. Word: the
+# port.
+STRANGERS = """
+import select, socket, sys
+sys.path.insert(0, "scripts/lib")
+from serving import message
+text = message("POST", "/api/files/local", "nobody0123456789", bytes(1 << 26), "multipart/form-data; boundary=a")
+while True:
+    with socket.create_connection(("127.0.0.1", int(sys.argv[1])), timeout=60) as conn:
+        try:
+            for at in range(0, len(text), 65536):
+                conn.sendall(text[at:at + 65536])
+                if select.select([conn], [], [], 0)[0]:
+                    break
+            reply = conn.recv(65536)
+            assert reply.startswith(b"HTTP/1.1 403 "), reply[:200]
+        except ConnectionError:
+            pass
+"""
 
-    def end(self):
-        for process in self.processes:
-            if process.poll() is not None:
-                raise SystemExit("an upload was refused")
-            process.kill()
-            process.wait()
+
+def uploads(octo, _, count):
+    return Callers(*[[sys.executable, "-c", UPLOADS, str(octo.port), octo.key, upload(number)] for number in range(count)])
 
 
-def print_rate(octo, peer, name):
-    """Lines a second of a print, of its first seconds if it takes longer, and the longest time between two of them in milliseconds."""
+def strangers(octo, _, count):
+    return Callers(*[[sys.executable, "-c", STRANGERS, str(octo.port)]] * count)
+
+
+def upload(number):
+    return "upload-%d.gcode" % number
+
+
+# The peers of scripts/process/slow.sh. Words: the port, the key.
+SLOW = """
+import sys, types
+sys.path.insert(0, "scripts/process")
+from slow import Slow
+Slow(types.SimpleNamespace(port=int(sys.argv[1]), key=sys.argv[2]))
+"""
+
+
+def slow_peers(octo, *_):
+    found = Callers([sys.executable, "-c", SLOW, str(octo.port), octo.key])
+    time.sleep(1)
+    return found
+
+
+def print_rate(octo, peer, begin):
+    """Lines a second of a print, of its first seconds if it takes longer, from when these callers have begun, and the longest time between two of them in milliseconds."""
     content = b"".join(b"G1 X%03d Y%03d E%d\n" % (n % 200, n * 7 % 200, n % 10) for n in range(LINES))
-    before, began = peer.lines, time.monotonic()
-    if octo.upload(name, content, True).status != 201:
+    if octo.upload("print.gcode", content, True).status != 201:
         raise SystemExit("the upload was refused")
-    while octo.state() != "Operational" and time.monotonic() < began + SECONDS:
+    callers = begin()
+    first, end = peer.lines, time.monotonic() + SECONDS
+    while octo.state() != "Operational" and time.monotonic() < end:
         time.sleep(0.05)
-    rate = (peer.lines - before) / (time.monotonic() - began)
-    moments = peer.moments[before + 1 :]
+    moments = peer.moments[first:]
     octo.post("/api/job", {"command": "cancel"})
-    return rate, 1000 * max(late - early for early, late in zip(moments, moments[1:]))
+    callers.end()
+    until("the print is over", lambda: octo.state() == "Operational", pause=0.05)
+    return (len(moments) - 1) / (moments[-1] - moments[0]), 1000 * max(late - early for early, late in zip(moments, moments[1:]))
 
 
-def prints_beside(octo, peer, name, what, count, kind=Callers):
+def prints_beside(octo, peer, what, count, kind=readers):
     """Lines a second of a print alone, and beside these callers, by turns, and the longest time between two lines."""
     found = {False: [], True: []}
-    for number in range(ROUNDS):
-        for beside in (False, True):
-            callers = kind(octo, what, count) if beside else None
-            found[beside].append(print_rate(octo, peer, "%s%d%d.gcode" % (name, number, beside)))
-            if callers:
-                callers.end()
-            until("the print is over", lambda: octo.state() == "Operational", pause=0.05)
+    for _ in range(ROUNDS):
+        found[False].append(print_rate(octo, peer, Callers))
+        found[True].append(print_rate(octo, peer, lambda: kind(octo, what, count)))
     (alone, gap), (beside, gap_beside) = (map(statistics.median, zip(*found[one])) for one in (False, True))
     print(
         "a print beside %d x %s: %.0f of %.0f lines a second, %.1f %% lost; the longest gap %.0f and alone %.0f ms; load %s"
@@ -99,8 +138,8 @@ def prints_beside(octo, peer, name, what, count, kind=Callers):
     )
 
 
-def answers_beside(octo, what, connections):
-    """The times of answers to a caller with a key, in milliseconds, while these connections are open."""
+def answers_beside(octo, what, callers=None):
+    """The times of answers to a caller with a key, in milliseconds, beside these callers."""
     times = []
     for _ in range(200):
         began = time.monotonic()
@@ -110,18 +149,22 @@ def answers_beside(octo, what, connections):
         time.sleep(0.002)
     times.sort()
     print("an answer beside %s: median %.2f ms, the longest of 200 %.2f ms; load %s" % (what, times[100], times[-1], load()), flush=True)
-    for conn in connections:
-        conn.close()
+    if callers:
+        callers.end()
 
 
-def opened(octo, count, start):
+class Opened:
     """This number of connections that have sent these bytes."""
-    connections = []
-    for _ in range(count):
-        connections.append(socket.create_connection(("127.0.0.1", octo.port), timeout=60))
-        connections[-1].sendall(start)
-    time.sleep(0.5)
-    return connections
+
+    def __init__(self, octo, count, start):
+        self.connections = [socket.create_connection(("127.0.0.1", octo.port), timeout=60) for _ in range(count)]
+        for conn in self.connections:
+            conn.sendall(start)
+        time.sleep(0.5)
+
+    def end(self):
+        for conn in self.connections:
+            conn.close()
 
 
 def asked(octo, count):
@@ -165,31 +208,42 @@ def begins():
             octo.kill()
 
 
+def fill(octo):
+    """As many files as a host may have: a large one, the print, those uploaded, and small ones."""
+    names = ["large.gcode", "print.gcode", *map(upload, range(4))]
+    names += ["small-%d.gcode" % number for number in range(FILES - len(names))]
+    for name in names:
+        with open(os.path.join(octo.files, name), "wb") as out:
+            out.write(LINE * (LARGE // len(LINE) if name == "large.gcode" else 1))
+
+
 def main():
     if "queue" not in SKIPPED:
         begins()
     peer = Peer(True)
     paced = host("paced", peer.port)
     try:
-        with open(os.path.join(paced.files, "large.gcode"), "wb") as out:
-            out.write(LINE * (LARGE // len(LINE)))
-        for number in range(900):
-            open(os.path.join(paced.files, "small-%d.gcode" % number), "wb").write(LINE)
+        fill(paced)
         paced.kill()
         paced.start()
-        answers_beside(paced, "nothing", [])
-        answers_beside(paced, "60 silent connections", opened(paced, 60, b""))
-        answers_beside(paced, "60 connections with a part of a head", opened(paced, 60, b"GET / HTTP/1.1\r\n"))
+        answers_beside(paced, "nothing")
+        answers_beside(paced, "60 silent connections", Opened(paced, 60, b""))
+        answers_beside(paced, "60 connections with a part of a head", Opened(paced, 60, b"GET / HTTP/1.1\r\n"))
+        answers_beside(paced, SLOWLY, slow_peers(paced))
         for count in (1, 8):
             print("with the link down, %d connections: %s" % (count, asked(paced, count)), flush=True)
         paced.connect()
-        prints_beside(paced, peer, "file", "/api/files/local/large.gcode", 1)
-        prints_beside(paced, peer, "files", "/api/files/local/large.gcode", 4)
-        prints_beside(paced, peer, "list", "/api/files", 4)
-        prints_beside(paced, peer, "download", "/downloads/files/local/large.gcode", 1)
-        prints_beside(paced, peer, "downloads", "/downloads/files/local/large.gcode", 4)
-        prints_beside(paced, peer, "upload", "uploads of 64 MiB", 1, Uploads)
-        prints_beside(paced, peer, "uploads", "uploads of 64 MiB", 4, Uploads)
+        prints_beside(paced, peer, "/api/files/local/large.gcode", 1)
+        prints_beside(paced, peer, "/api/files/local/large.gcode", 4)
+        prints_beside(paced, peer, "/api/files", 4)
+        prints_beside(paced, peer, "/downloads/files/local/large.gcode", 1)
+        prints_beside(paced, peer, "/downloads/files/local/large.gcode", 4)
+        for count in (1, 4):
+            prints_beside(paced, peer, "uploads of 64 MiB", count, uploads)
+            prints_beside(paced, peer, "uploads of 64 MiB by a key that names nobody", count, strangers)
+        prints_beside(paced, peer, SLOWLY, 1, slow_peers)
+        if paced.ask("GET", "/api/files").body.count(b'"name":') != FILES:
+            raise SystemExit("the list has another number of files")
     finally:
         paced.kill()
 
