@@ -100,17 +100,8 @@ impl Bay {
     {
         let was = self.session.desk().state();
         let turned = self.session.turn(link, moment);
-        let Turned {
-            note,
-            ending,
-            heard,
-        } = turned;
-        let note = add_turn(&self.session, &mut self.deeds, was, moment, note);
-        Turned {
-            note,
-            ending,
-            heard,
-        }
+        add_turn(&self.session, &mut self.deeds, was, moment, &turned.note);
+        turned
     }
 
     /// Begins to connect to a port. Refused as WrongState except in Offline and Fault.

@@ -5,29 +5,46 @@ ghost use Rattle.octo_floor_bay.specs.declared.deed.Deed.TheVariants as deed;
 
 use crate::Deed;
 use arrayvec::ArrayVec;
-use byte_text::Name;
+use byte_text::{Name, bounded_text};
 use event_log::EventLog;
 use gcode_lines::Job;
-use job_desk::{LinkFact, Note, State};
+use job_desk::{Issued, LinkFact, Note, State};
 use octo_session::Session;
 
-// Adds a note, and hands it back.
-fn add_note(deeds: &mut EventLog<Deed>, note: Note) -> Note
-    ensures same { result ≡ note }
-    ensures added { deeds.new ≡ deeds.old ++ deed.Turned note ∷ [] }
+// A copy of a line.
+fn copy_line(line: &Issued) -> Issued
+    ensures { result ≡ line.now }
 {
-    let deed = Deed::Turned { note };
-    deeds.add(&deed);
-    match deed {
-        Deed::Turned { note } => note,
-        Deed::Connected { port: _port } => unreachable!(),
-        Deed::Started {
-            file: _file,
-            job: _job,
-            print: _print,
-        } => unreachable!(),
-        Deed::Disconnected => unreachable!(),
+    Issued {
+        text: bounded_text(line.text.as_slice()),
+        tag: line.tag,
     }
+}
+
+// A copy of the lines of a note. They are few, and the room behind them isn't copied.
+fn copy_lines(lines: &ArrayVec<Issued, 16>) -> ArrayVec<Issued, 16>
+    ensures { result ≡ lines.now }
+{
+    let mut copy = ArrayVec::new();
+    for line in lines.as_slice() {
+        copy.push(copy_line(line));
+    }
+    copy
+}
+
+// Adds a copy of a note.
+fn add_note(deeds: &mut EventLog<Deed>, note: &Note)
+    ensures { deeds.new ≡ deeds.old ++ deed.Turned note.now ∷ [] }
+{
+    deeds.add(&Deed::Turned {
+        note: Note {
+            moment: note.moment,
+            acked: note.acked,
+            issued: copy_lines(&note.issued),
+            temps: note.temps,
+            fact: note.fact,
+        },
+    });
 }
 
 // Whether two states are the same: what `==` says of them, as clauses.
@@ -59,27 +76,24 @@ fn add_change(session: &Session, deeds: &mut EventLog<Deed>, was: State, moment:
     if same(session.desk().state(), was) {
         return;
     }
-    add_note(deeds, quiet_note(session, moment));
+    let note = quiet_note(session, moment);
+    deeds.add(&Deed::Turned { note });
 }
 
-// Adds what a turn did that left this session, and hands its note back.
+// Adds what a turn did that left this session.
 pub(crate) fn add_turn(
     session: &Session,
     deeds: &mut EventLog<Deed>,
     was: State,
     moment: u64,
-    note: Option<Note>,
-) -> Option<Note>
-    ensures same { result ≡ note }
-    ensures added { AddsTurn moment session.now.sender.acked was session.now.desk.state note
+    note: &Option<Note>,
+)
+    ensures { AddsTurn moment session.now.sender.acked was session.now.desk.state note.now
         deeds.old deeds.new }
 {
     match note {
-        Some(note) => Some(add_note(deeds, note)),
-        None => {
-            add_change(session, deeds, was, moment);
-            None
-        }
+        Some(note) => add_note(deeds, note),
+        None => add_change(session, deeds, was, moment),
     }
 }
 
