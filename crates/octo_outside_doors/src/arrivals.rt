@@ -26,14 +26,17 @@ const CHUNK: usize = 4_096;
 // For how long a connection waits at most, in seconds.
 const LONGEST: u64 = 60;
 
-// How long one call waits for input, and rests if the system has no room for a connection, in milliseconds.
+// How long one call waits for input while a worker has a connection, and rests if the system has no room for one, in milliseconds.
 const WAIT: i32 = 10;
+
+// How long it waits for input if none has: then no worker has one to give back, and an idle host seldom wakes.
+const IDLE_WAIT: i32 = 50;
 
 // How many of the four workers may serve connections at once that may keep them waiting. The last one serves whole messages.
 const MOST_BUSY: u8 = 3;
 
-// For how long a worker leaves the list to the others if a connection waits for one of them, in milliseconds.
-const TURN: u64 = 1;
+// For how long a worker leaves the list to the others if a connection waits for one of them, in microseconds.
+const TURN: u64 = 250;
 
 /// A connection that has come, with the bytes that were read of it.
 #[derive(Drop)]
@@ -59,6 +62,11 @@ impl Arrival {
             has_ended: false,
             since: Instant::now(rt).ok()?,
         })
+    }
+
+    /// Whether its whole message was read, so that its peer has nothing more to send.
+    pub(crate) fn is_whole(&self) -> bool {
+        self.came == Came::Whole
     }
 
     // Whether more of it is read at the door.
@@ -133,8 +141,8 @@ impl Arrivals {
         })
     }
 
-    // For each connection that goes on whether it has input, and at the end whether the listener has a connection. Waits for
-    // about 10 milliseconds until one of them has.
+    // For each connection that goes on whether it has input, and at the end whether the listener has a connection. Waits until one
+    // of them has: for about 10 milliseconds, or for 50 if no worker has a connection.
     fn poll_all(&self) -> [pollfd; POLLED] {
         let none = pollfd {
             fd: -1,
@@ -150,7 +158,7 @@ impl Arrivals {
             }
         }
         asked[MOST].fd = self.listener.as_raw_fd();
-        poll(&mut asked, WAIT);
+        poll(&mut asked, if self.busy == 0 { IDLE_WAIT } else { WAIT });
         asked
     }
 
@@ -222,19 +230,42 @@ impl Arrivals {
         let _ = self.remove(place);
     }
 
-    // Takes in a connection. Fails if the listener failed. If the system has no room, the oldest connection is closed.
-    fn admit<R: Clock>(&mut self, rt: &R) -> io::Result<()> {
-        match self.listener.accept() {
-            Ok((stream, _)) => self.keep(rt, stream),
-            Err(error) => {
-                if may_come_later(&error) {
-                    return Ok(());
-                }
-                if !may_pass(&error) {
-                    return Err(error);
-                }
-                self.drop_oldest();
-                thread::sleep(rt, Duration::from_millis(WAIT as u64));
+    // Takes in a connection, and returns whether it did. Fails if the listener failed. If the system has no room, the oldest
+    // connection is closed.
+    fn admit<R: Clock>(&mut self, rt: &R) -> io::Result<bool> {
+        let error = match self.listener.accept() {
+            Ok((stream, _)) => {
+                self.keep(rt, stream);
+                return Ok(true);
+            }
+            Err(error) => error,
+        };
+        if may_come_later(&error) {
+            return Ok(false);
+        }
+        if !may_pass(&error) {
+            return Err(error);
+        }
+        self.drop_oldest();
+        thread::sleep(rt, Duration::from_millis(WAIT as u64));
+        Ok(false)
+    }
+
+    // Whether the listener has a connection now.
+    fn has_caller(&self) -> bool {
+        let mut asked = [pollfd {
+            fd: self.listener.as_raw_fd(),
+            events: POLLIN,
+            revents: 0,
+        }];
+        poll(&mut asked, 0) > 0
+    }
+
+    // Takes in the connections that have come while there is room: the first of them in any case. Fails if the listener failed.
+    fn admit_all<R: Clock>(&mut self, rt: &R) -> io::Result<()> {
+        for _ in 0..MOST {
+            if !self.admit(rt)? || self.begun.len() >= MOST || !self.has_caller() {
+                break;
             }
         }
         Ok(())
@@ -255,7 +286,7 @@ impl Arrivals {
         Some(oldest)
     }
 
-    // The next connection that is handed on, if there is one within about 10 milliseconds. Fails if the listener failed.
+    // The next connection that is handed on, if there is one within that time. Fails if the listener failed.
     fn next<R: Clock>(&mut self, rt: &R) -> io::Result<Option<Arrival>> {
         if let Some(arrival) = self.take_ready() {
             return Ok(Some(arrival));
@@ -263,7 +294,7 @@ impl Arrivals {
         let asked = self.poll_all();
         self.look_at_all(&asked);
         if asked[MOST].revents != 0 {
-            self.admit(rt)?;
+            self.admit_all(rt)?;
         }
         match self.take_ready() {
             Some(arrival) => Ok(Some(arrival)),
@@ -303,7 +334,7 @@ fn next_in_turn<R: Clock + Wait>(
 }
 
 /// The next connection that is handed on to a worker, which gives one back if it had one. Waits for the others that ask, and
-/// for about 10 milliseconds more.
+/// for about 10 milliseconds more, or for 50 if no worker has a connection.
 pub(crate) fn next_of<R: Clock + Wait>(
     rt: &R,
     arrivals: &Mutex<Arrivals>,
@@ -311,7 +342,7 @@ pub(crate) fn next_of<R: Clock + Wait>(
 ) -> io::Result<Option<Arrival>> {
     let (arrival, is_left) = next_in_turn(rt, arrivals, had_one)?;
     if is_left {
-        thread::sleep(rt, Duration::from_millis(TURN));
+        thread::sleep(rt, Duration::from_micros(TURN));
     }
     Ok(arrival)
 }

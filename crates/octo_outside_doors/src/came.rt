@@ -63,16 +63,14 @@ fn body_len(fields: &[Header<'_>]) -> Option<u64> {
     Some(length)
 }
 
-// How many bytes follow a whole head; `None` if that can't be told, or if it asks for the content of a file.
+// How many bytes follow a whole head; `None` if that can't be told, or if it asks for the content of a file. Nothing can be told of a
+// head that will be refused.
 fn rest_len(bytes: &[u8]) -> Option<u64> {
     let mut fields = [EMPTY_HEADER; MOST_FIELDS];
     let mut request = Request::new(&mut fields);
-    match request.parse(bytes) {
-        Ok(Status::Complete(_)) => {}
-        Ok(Status::Partial) => return None,
-        // It is refused at once.
-        Err(_) => return Some(0),
-    }
+    let Ok(Status::Complete(_)) = request.parse(bytes) else {
+        return None;
+    };
     if memmem::find(request.path?.as_bytes(), CONTENT).is_some() {
         return None;
     }

@@ -10,7 +10,7 @@ use libc::types::pollfd;
 use octo_outside::{Conn, Failed, Got};
 use octo_outside_sockets::{linger, may_come_later, write_some};
 use std::io::Read;
-use std::net::TcpStream;
+use std::net::{Shutdown, TcpStream};
 use std::os::fd::AsRawFd;
 use std::time::{Clock, Instant};
 
@@ -27,6 +27,19 @@ const PIECE: usize = 65_536;
 // For how many milliseconds it rests at most.
 const MOST_REST: usize = 10;
 
+// A write of more than a piece is no part of a file, but a reply that was made for its caller, such as a list of a thousand files. It took
+// the house's time too, so it counts as four pieces.
+const MADE_REPLY: usize = 262_144;
+
+// How long the end of a connection whose whole message wasn't read at the door waits for the peer's close, or for input that has to be
+// dropped, in milliseconds. A peer that does neither has sent all as a rule.
+const LAST_WAIT: i32 = 2;
+
+// As those two, for input that is dropped at the end. Its sender may be back at once, as often as it is refused.
+const DROPPED_PIECE: usize = 8_192;
+
+const MOST_LAST_REST: usize = 200;
+
 /// A connection of a door over TCP. It records neither what is left nor what was written.
 ///
 /// A read waits for 10 milliseconds by the clock, and a write for 10 seconds at most. A peer may not be slow for long: for each
@@ -34,11 +47,13 @@ const MOST_REST: usize = 10;
 /// takes add a second, up to those 10. Once they are used up, each read is quiet at once, or each write fails.
 ///
 /// Once it has read and written 65,536 bytes or more since its last rest, it rests for a millisecond for each 65,536 bytes or part of
-/// them, and for 10 at most, so that the processors are free for others.
+/// them, and for 10 at most, so that the processors are free for others. A write of more than 65,536 bytes counts as 262,144.
 #[derive(Drop)]
 pub struct DoorConn<R: Drop> {
     rt: R,
     stream: TcpStream,
+    // Its whole message was read at the door.
+    is_whole: bool,
     // What was read at the door, and how many bytes of it were returned.
     ahead: Vec<u8>,
     returned: usize,
@@ -50,23 +65,28 @@ pub struct DoorConn<R: Drop> {
     quiets: u64,
 }
 
-// Whether a stream is ready for these events, or becomes so within 10 milliseconds. If the poll fails, the call of the
-// stream that follows waits by its own limit.
-fn is_ready(stream: &TcpStream, events: i16) -> bool {
+// Leaves the processors to others for a time.
+fn rest(milliseconds: i32) {
+    poll(&mut [], milliseconds);
+}
+
+// Whether a stream is ready for these events, or becomes so within a time. If the poll fails, the call of the stream that follows
+// waits by its own limit.
+fn is_ready(stream: &TcpStream, events: i16, milliseconds: i32) -> bool {
     let mut asked = [pollfd {
         fd: stream.as_raw_fd(),
         events,
         revents: 0,
     }];
-    poll(&mut asked, WAIT) != 0
+    poll(&mut asked, milliseconds) != 0
 }
 
-// The same, and for how many nanoseconds it waited: 0 if the clock fails.
+// The same within 10 milliseconds, and for how many nanoseconds it waited: 0 if the clock fails.
 fn wait_until_ready<R: Clock>(rt: &R, stream: &TcpStream, events: i16) -> (bool, u64) {
     let Ok(start) = Instant::now(rt) else {
-        return (is_ready(stream, events), 0);
+        return (is_ready(stream, events, WAIT), 0);
     };
-    let ready = is_ready(stream, events);
+    let ready = is_ready(stream, events, WAIT);
     match start.elapsed(rt) {
         Ok(waited) => (ready, waited.as_nanos().min(u64::MAX as u128) as u64),
         Err(_) => (ready, 0),
@@ -80,6 +100,7 @@ impl<R: Drop> DoorConn<R> {
     {
         DoorConn {
             rt,
+            is_whole: arrival.is_whole(),
             stream: arrival.stream,
             ahead: arrival.ahead,
             returned: 0,
@@ -128,9 +149,8 @@ impl<R: Drop> DoorConn<R> {
     {
         self.moved = self.moved.saturating_add(bytes);
         if self.moved >= PIECE {
-            let rest = self.moved.div_ceil(PIECE).min(MOST_REST);
+            rest(self.moved.div_ceil(PIECE).min(MOST_REST) as i32);
             self.moved = 0;
-            poll(&mut [], rest as i32);
         }
     }
 
@@ -176,10 +196,16 @@ impl<R: Clock + Drop> DoorConn<R> {
         false
     }
 
-    /// Gives the connection back. The peer can still read what was written: input that it sends meanwhile is
-    /// dropped until it closes, for about 50 milliseconds at most.
+    /// Gives the connection back. The peer can still read what was written: if input comes within 2 milliseconds, or has come
+    /// where the whole message was read at the door, it is dropped until the peer closes, for about 50 milliseconds at most.
+    /// Then this rests for a millisecond for each 8,192 bytes of that input or part of them, and for 200 at most.
     pub fn finish(mut self) {
-        linger(&self.rt, &mut self.stream);
+        let _ = self.stream.shutdown(Shutdown::Write);
+        let wait = if self.is_whole { 0 } else { LAST_WAIT };
+        if is_ready(&self.stream, POLLIN, wait) {
+            let dropped = linger(&self.rt, &mut self.stream);
+            rest(dropped.div_ceil(DROPPED_PIECE).min(MOST_LAST_REST) as i32);
+        }
     }
 }
 
@@ -224,7 +250,7 @@ impl<R: Clock + Drop> Conn for DoorConn<R> {
         match write_some(&mut self.stream, bytes) {
             Some(n) => {
                 self.writes.earn(n);
-                self.count_moved(n);
+                self.count_moved(if bytes.len() > PIECE { MADE_REPLY } else { n });
                 Ok(n)
             }
             None => Err(self.fail()),

@@ -21,8 +21,8 @@ const WAIT: u64 = 10;
 ///
 /// Four doors share one listener, and one list of the connections that no worker has yet: see `Arrivals`. So a call returns a
 /// connection whose worker needs not wait for its head, and for nothing of it if the other three doors have one out. It waits
-/// for about 10 milliseconds, and for the calls of the other three doors before it. A connection that is given back is written out and closed in order: see
-/// `DoorConn::finish`.
+/// for about 10 milliseconds, or for 50 if none of the doors has a connection out, and for the calls of the other three doors
+/// before it. A connection that is given back is written out and closed in order: see `DoorConn::finish`.
 #[derive(Drop)]
 pub struct TcpDoor<R: Net + Drop> {
     rt: R,
@@ -125,7 +125,7 @@ impl<R: Net<Listener = TcpListener, Stream = TcpStream> + Copy> TcpDoor<R> {
 }
 
 impl<R: Net<Listener = TcpListener, Stream = TcpStream> + Clock + Wait + Copy> TcpDoor<R> {
-    // The connection that is handed on within about 10 milliseconds, if one is; an error if the listener failed.
+    // The connection that is handed on within that time, if one is; an error if the listener failed.
     fn next_arrival(&mut self) -> Result<Option<Arrival>, Failed>
         ensures absent { self.old.arrivals ≡ None → IsErr result }
         ensures has_failed { self.new.has_failed ≡ self.old.has_failed }

@@ -70,30 +70,36 @@ pub fn write_some<S: Write>(stream: &mut S, bytes: &[u8]) -> Option<usize>
     None
 }
 
-// Drops what the next read returns, and says whether more may come.
-fn drop_some<S: Read>(stream: &mut S) -> bool {
+// Drops what the next read returns. Returns how many bytes, or `None` if no more can come.
+fn drop_some<S: Read>(stream: &mut S) -> Option<usize> {
     let mut chunk = [0; CHUNK];
     match stream.read(&mut chunk) {
-        Ok(n) => n > 0,
-        Err(error) => may_come_later(&error),
+        Ok(0) => None,
+        Ok(n) => Some(n),
+        Err(error) if may_come_later(&error) => Some(0),
+        Err(_) => None,
     }
 }
 
 /// Gives back a stream that was readied: shuts its writing side, and drops input until the peer closes,
-/// for about 50 milliseconds at most.
+/// for about 50 milliseconds at most. Returns how many bytes it dropped.
 ///
 /// The system answers input after a close by a reset, and a peer that is reset may lose what it hasn't read yet.
-pub fn linger<R: Clock, S: Read + OpenStream>(rt: &R, stream: &mut S) {
+pub fn linger<R: Clock, S: Read + OpenStream>(rt: &R, stream: &mut S) -> usize {
+    let mut dropped: usize = 0;
     let _ = stream.shutdown(Shutdown::Write);
     let Ok(start) = Instant::now(rt) else {
-        return;
+        return dropped;
     };
     for _ in 0..LAST_READS {
-        let Ok(gone) = start.elapsed(rt) else {
-            return;
-        };
-        if gone >= Duration::from_millis(LINGER) || !drop_some(stream) {
-            return;
+        match start.elapsed(rt) {
+            Ok(gone) if gone < Duration::from_millis(LINGER) => {}
+            _ => return dropped,
+        }
+        match drop_some(stream) {
+            Some(n) => dropped = dropped.saturating_add(n),
+            None => return dropped,
         }
     }
+    dropped
 }

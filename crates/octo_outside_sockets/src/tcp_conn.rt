@@ -112,7 +112,7 @@ impl<R: Net + Clock + Drop> TcpConn<R> {
     /// Gives the connection back. The peer can still read what was written: input that it sends meanwhile is
     /// dropped until it closes, for about 50 milliseconds at most.
     pub fn finish(mut self) {
-        linger(&self.rt, &mut self.stream);
+        let _ = linger(&self.rt, &mut self.stream);
     }
 }
 

@@ -182,7 +182,7 @@ impl<R: Net<Stream = TcpStream> + Files<File = File> + Processes + Clock + Eprin
     /// Closes a stream. Input that comes meanwhile over a socket is dropped, for about 50 milliseconds at most.
     fn close(&mut self, stream: SystemStream) {
         if let PortStream::Socket(mut stream) = stream {
-            linger(&self.rt, &mut stream);
+            let _ = linger(&self.rt, &mut stream);
         }
     }
 

@@ -85,7 +85,7 @@ fn the_others_serve_what_waits(rt: HostRuntime) -> Result<(), Fail> {
 }
 
 // Which messages are whole and have a short reply: not a body that goes on or comes in chunks, one that its peer sends after
-// a word of the host, or the content of a file. What is no message is refused at once.
+// a word of the host, or the content of a file. What is no message tells nothing of what its peer has still to send.
 #[test]
 fn whole_messages(rt: HostRuntime) -> Result<(), Fail> {
     let mut doors = TcpDoor::four(&rt, rt.alloc(), "127.0.0.1:0", &Bell::silent())?;
@@ -121,7 +121,7 @@ fn whole_messages(rt: HostRuntime) -> Result<(), Fail> {
             b"POST /api/job HTTP/1.1\r\nContent-Length: 2\r\n\r\n{}{}",
             true,
         ),
-        (b"no message\r\n\r\n", true),
+        (b"no message\r\n\r\n", false),
     ];
     for (bytes, is_whole) in rows {
         let _peer = peer_of(&rt, address, bytes)?;
