@@ -1,8 +1,8 @@
 //! A command is carried out over the system's files and sockets.
 use crate::absent::{AbsentKeeper, absent_doors};
 use crate::causes::{say_of_database, say_of_end, say_of_link, say_of_links};
-use crate::host_links::{host_link, host_links};
-use crate::host_log::{HostDoors, HostLog, Logs, with_log};
+use crate::host_links::{drop_links, host_link, host_links};
+use crate::host_log::{HostDoors, HostLog, Logs, drop_doors, with_log};
 use crate::showing::view_of;
 use byte_text::Name;
 use octo_commands::octo;
@@ -74,14 +74,14 @@ fn carry_out<
     ear: Ear,
     floor_ear: &Ear,
 ) -> ExitCode {
-    let mut files = FileSource::new(*system);
-    let mut link = host_link(system, view_of(system, words), boot_ms, &ear, logs.calls);
-    let mut links = host_links(system, boot_ms, floor_ear);
-    let mut clock = EarClock::new(*system, ear);
     let Ok(folder_shelf) = FolderShelf::new(*system, folder) else {
         return end_with(out, &HostReport::Command(Report::NoMemory));
     };
     let mut shelf = LoggedShelf::new(folder_shelf, HostLog::new(system, logs.calls));
+    let mut files = FileSource::new(*system);
+    let mut link = host_link(system, view_of(system, words), boot_ms, &ear, logs.calls);
+    let mut links = host_links(system, boot_ms, floor_ear);
+    let mut clock = EarClock::new(*system, ear);
     let status = octo(
         rt,
         system.alloc(),
@@ -101,6 +101,11 @@ fn carry_out<
         say_of_link(system, words, status.code, cause);
     }
     say_of_links(system, &links);
+    drop_links(links);
+    drop(link);
+    drop(shelf);
+    drop(clock);
+    drop(files);
     ExitCode::from(status.code)
 }
 
@@ -176,7 +181,7 @@ pub(crate) fn carry_out_unserved<
 ) -> ExitCode {
     let mut keeper = AbsentKeeper::new();
     let mut doors = with_log(system, absent_doors(rt), false);
-    carry_out(
+    let code = carry_out(
         rt,
         system,
         words,
@@ -191,5 +196,7 @@ pub(crate) fn carry_out_unserved<
         },
         Ear::deaf(),
         &Ear::deaf(),
-    )
+    );
+    drop_doors(doors);
+    code
 }

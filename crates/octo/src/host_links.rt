@@ -62,3 +62,25 @@ pub(crate) fn host_links(system: &HostRuntime, boot_ms: Option<u16>, ear: &Ear) 
         h: floor_link(system, boot_ms, ear),
     }
 }
+
+// Drops the links of a floor one by one: as a whole they would be the largest part of a caller's proof.
+pub(crate) fn drop_links(links: Links<HostLink>) {
+    let Links {
+        a,
+        b,
+        c,
+        d,
+        e,
+        f,
+        g,
+        h,
+    } = links;
+    drop(a);
+    drop(b);
+    drop(c);
+    drop(d);
+    drop(e);
+    drop(f);
+    drop(g);
+    drop(h);
+}

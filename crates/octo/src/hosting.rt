@@ -1,7 +1,7 @@
 //! The commands that have a folder and a database: a host at an address, and a floor of printers.
 use crate::absent::absent_doors;
 use crate::carrying::{carry_out_stored, end_with};
-use crate::host_log::{HostLog, Logs, with_log};
+use crate::host_log::{HostLog, Logs, drop_doors, with_log};
 use byte_text::Name;
 use octo_files::Report;
 use octo_log::{log_serving, log_stopped};
@@ -72,6 +72,7 @@ pub(crate) fn serve_with<
         &Ear::deaf(),
     );
     log_stopped(&mut log);
+    drop_doors(doors);
     code
 }
 
@@ -110,7 +111,7 @@ pub(crate) fn floor_with<
         calls: false,
         events: true,
     };
-    carry_out_stored(
+    let code = carry_out_stored(
         rt,
         system,
         words,
@@ -122,5 +123,7 @@ pub(crate) fn floor_with<
         logs,
         Ear::deaf(),
         &ear,
-    )
+    );
+    drop_doors(doors);
+    code
 }

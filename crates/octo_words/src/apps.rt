@@ -241,7 +241,7 @@ fn helped_bare_app<'a>(alloc: Global) -> Command<'a>
     ensures local { (out-Command result).has_globals ≡ false }
 {
     Command::new(alloc, "octo")
-        .about("A print host for one 3D printer with Marlin")
+        .about("A print host for 3D printers with Marlin")
         .after_help("docs/USING.md and docs/SERVING.md say what each command does.")
         .version(VERSION)
         .no_binary_name(true)
