@@ -1,0 +1,9 @@
+//! Floors of printers in memory.
+mod ends;
+mod faults;
+mod losses;
+mod rounds;
+mod rows;
+mod seen;
+mod shops;
+mod watched;
