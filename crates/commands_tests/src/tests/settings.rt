@@ -6,7 +6,6 @@ mod values;
 use octo_settings::{Settings, SettingsFault, read_settings};
 use std::alloc::Global;
 use std::process::Abort;
-use std::test::Fail;
 
 // What the settings need beside the printer: an admin, whose key is `ana-key-0123456789`.
 const ADMIN: &str = "[admin]\nname = 'root'\n\
@@ -15,36 +14,37 @@ key_sha256 = '3d6dc258f967781f8598c11af4d699e0a7f3f5f52f6b1a0f0931150933a2d5ae'\
 // A printer of one port; lines that follow belong to it.
 const PRINTER: &str = "[printer]\nports = ['p']\n";
 
+// Settings are read in one place, since the contract of that is long.
+fn read_bytes(alloc: Global, bytes: &[u8]) -> Result<Settings, SettingsFault> {
+    read_settings(alloc, bytes)
+}
+
 // Settings of three parts, one after the other, each with a line end.
 fn read(
-    alloc: Global,
+    rt: &(impl Abort + Alloc<A = Global>),
     head: &str,
     text: &str,
     tail: &str,
-) -> Result<Result<Settings, SettingsFault>, Fail> {
-    let whole = format!(in alloc; "{head}\n{text}\n{tail}")?;
-    Ok(read_settings(alloc, whole.as_bytes()))
+) -> Result<Settings, SettingsFault> {
+    let whole = format!(in rt.alloc(); "{head}\n{text}\n{tail}").expect(rt, "no memory");
+    let read = read_bytes(rt.alloc(), whole.as_bytes());
+    drop(whole);
+    read
+}
+
+// Such settings, which are read.
+fn settings_of(
+    rt: &(impl Abort + Alloc<A = Global>),
+    head: &str,
+    text: &str,
+    tail: &str,
+) -> Settings {
+    read(rt, head, text, tail).expect(rt, "refused")
 }
 
 // Whether such settings are read.
-fn is_read(alloc: Global, head: &str, text: &str, tail: &str) -> Result<bool, Fail> {
-    Ok(read(alloc, head, text, tail)?.is_ok())
-}
-
-// Whether such settings have that fault.
-fn has_fault(
-    alloc: Global,
-    head: &str,
-    text: &str,
-    tail: &str,
-    why: Why,
-    wanted: &str,
-) -> Result<bool, Fail> {
-    let fault = read(alloc, head, text, tail)?.err();
-    match fault {
-        Some(fault) => Ok(is_fault(&fault, why, wanted)),
-        None => Ok(false),
-    }
+fn is_read(rt: &(impl Abort + Alloc<A = Global>), head: &str, text: &str, tail: &str) -> bool {
+    read(rt, head, text, tail).err().is_none()
 }
 
 // A hundred bytes.
@@ -68,17 +68,28 @@ fn is_fault(fault: &SettingsFault, why: Why, wanted: &str) -> bool {
     }
 }
 
+// Settings with this text between a head and a tail have that fault.
+fn assert_fault(
+    rt: &(impl Abort + Alloc<A = Global>),
+    head: &str,
+    tail: &str,
+    text: &str,
+    why: Why,
+    wanted: &str,
+) {
+    let fault = read(rt, head, text, tail).err().expect(rt, "read");
+    assert!(rt; is_fault(&fault, why, wanted), "{text}");
+    drop(fault);
+}
+
 // Settings with each of these texts between a head and a tail have that fault.
 fn faults(
-    rt: &impl Abort,
-    alloc: Global,
+    rt: &(impl Abort + Alloc<A = Global>),
     head: &str,
     tail: &str,
     cases: &[(&str, Why, &str)],
-) -> Result<(), Fail> {
+) {
     for (text, why, wanted) in cases {
-        let has = has_fault(alloc, head, text, tail, *why, wanted)?;
-        assert!(rt; has, "{text}");
+        assert_fault(rt, head, tail, text, *why, wanted);
     }
-    Ok(())
 }

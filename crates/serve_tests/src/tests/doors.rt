@@ -4,8 +4,14 @@ use octo_outside_doors::{Doors, MemoryDoor};
 use std::alloc::Global;
 use std::process::Abort;
 
-// Lets the doors go, as `Bench::end` does.
-pub(super) fn end_doors<D: Drop>(_doors: Doors<D>) {}
+// Drops the doors one by one, as `Bench::end` does its parts.
+pub(super) fn end_doors<D: Drop>(doors: Doors<D>) {
+    let Doors { a, b, c, d } = doors;
+    drop(a);
+    drop(b);
+    drop(c);
+    drop(d);
+}
 
 // Two connections, of which the first is read only once the second was given back.
 pub(super) fn gates<R: Abort + Copy + Drop>(
@@ -14,10 +20,7 @@ pub(super) fn gates<R: Abort + Copy + Drop>(
     one: &[u8],
     two: &[u8],
 ) -> Doors<GateDoor<R>> {
-    match GateDoor::four(rt, alloc, one, two) {
-        Ok(doors) => doors,
-        Err(_) => panic!(rt; "no memory"),
-    }
+    GateDoor::four(rt, alloc, one, two)
 }
 
 // The status of a reply.

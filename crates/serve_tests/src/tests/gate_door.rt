@@ -1,13 +1,14 @@
 //! Doors in memory, of which one waits for another.
 ghost use Rattle.std.proofs.Props.{props};
-ghost use Rattle.std.specs.Prelude.{◌≡◌, IfSome, IfOk, None, false, [], Option, List, ℕ};
+ghost use Rattle.std.specs.Prelude.{◌≡◌, IfSome, None, false, [], Option, List, ℕ};
 
 use super::gate_conn::GateConn;
 use arrayvec::ArrayVec;
 use octo_outside::{CallList, Failed, MemoryConn};
 use octo_outside_bell::Bell;
 use octo_outside_doors::{Door, Doors, Knock};
-use std::alloc::{AllocError, Global};
+use std::alloc::Global;
+use std::process::Abort;
 use std::sync::Arc;
 use std::sync::atomic::{AtomicBool, Ordering};
 use std::time::Clock;
@@ -26,26 +27,41 @@ pub(super) struct GateDoor<R: Drop> {
 }
 
 // A connection with this input and, perhaps, a gate.
-fn conn<R: Copy + Drop>(
+fn conn<R: Abort + Copy + Drop>(
     rt: &R,
     alloc: Global,
     input: &[u8],
     gate: Option<Arc<AtomicBool>>,
-) -> Result<GateConn<R>, AllocError>
-    ensures { IfOk result (λ c. (c.faults ≡ 0) × (c.quiets ≡ 0)) }
+) -> GateConn<R>
+    ensures { (result.faults ≡ 0) × (result.quiets ≡ 0) }
 {
-    let input = MemoryConn::new(alloc, input, CallList::new(alloc), CallList::new(alloc))?;
-    Ok(GateConn {
+    GateConn {
         rt: *rt,
-        input,
+        input: input_of(rt, alloc, input),
         written: ArrayVec::new(),
         gate,
         faults: 0,
         quiets: 0,
-    })
+    }
 }
 
-impl<R: Copy + Drop> GateDoor<R> {
+fn input_of(rt: &impl Abort, alloc: Global, input: &[u8]) -> MemoryConn {
+    MemoryConn::new(alloc, input, CallList::new(alloc), CallList::new(alloc)).expect(
+        rt,
+        "no memory",
+    )
+}
+
+// A gate that is closed.
+fn closed(rt: &impl Abort, alloc: Global) -> Arc<AtomicBool> {
+    Arc::new(alloc, AtomicBool::new(false)).expect(rt, "no memory")
+}
+
+fn same(rt: &impl Abort, gate: &Arc<AtomicBool>) -> Arc<AtomicBool> {
+    Arc::try_clone(gate).expect(rt, "no memory")
+}
+
+impl<R: Abort + Copy + Drop> GateDoor<R> {
     // A door at which no connection comes.
     fn empty() -> Self {
         GateDoor {
@@ -55,33 +71,29 @@ impl<R: Copy + Drop> GateDoor<R> {
         }
     }
 
+    // A door at which this connection comes, and what giving it back opens.
+    fn of(conn: GateConn<R>, opens: Option<Arc<AtomicBool>>) -> Self
+        requires { (conn.faults ≡ 0) × (conn.quiets ≡ 0) }
+    {
+        GateDoor {
+            coming: Some(conn),
+            finished: None,
+            opens,
+        }
+    }
+
     // Four doors: door a has one connection with the bytes `one`, door b one with the bytes `two`,
     // and the others have none. While door b's connection isn't given back, a read of door a's
-    // rests for a millisecond and finds nothing yet. Fails if out of memory.
-    pub(super) fn four(
-        rt: &R,
-        alloc: Global,
-        one: &[u8],
-        two: &[u8],
-    ) -> Result<Doors<GateDoor<R>>, AllocError> {
-        let gate = Arc::new(alloc, AtomicBool::new(false))?;
-        let opens = Some(Arc::try_clone(&gate)?);
-        let first = conn(rt, alloc, one, Some(gate))?;
-        let second = conn(rt, alloc, two, None)?;
-        Ok(Doors {
-            a: GateDoor {
-                coming: Some(first),
-                finished: None,
-                opens: None,
-            },
-            b: GateDoor {
-                coming: Some(second),
-                finished: None,
-                opens,
-            },
+    // rests for a millisecond and finds nothing yet. Stops if out of memory.
+    pub(super) fn four(rt: &R, alloc: Global, one: &[u8], two: &[u8]) -> Doors<GateDoor<R>> {
+        let gate = closed(rt, alloc);
+        let opens = same(rt, &gate);
+        Doors {
+            a: GateDoor::of(conn(rt, alloc, one, Some(gate)), None),
+            b: GateDoor::of(conn(rt, alloc, two, None), Some(opens)),
             c: GateDoor::empty(),
             d: GateDoor::empty(),
-        })
+        }
     }
 
     // What was written to the connection that was given back.

@@ -7,13 +7,14 @@ use hand_over::{HouseEnd, WorkerEnd, Workers, ends};
 use octo_asks::{Answer, Ask, Asker, Closed, Counter, Next, Request};
 use octo_outside_bell::{Bell, Ear, bell_and_ear};
 use std::alloc::Global;
+use std::process::Abort;
 use std::sync::Wait;
 use std::test::Fail;
 use std::thread::{Threads, join_mut, yield_now};
 use std::time::{Clock, Duration, Instant};
 
-fn answer_to(ask: Ask) -> Answer {
-    match ask.request {
+fn answer_to(request: &Request) -> Answer {
+    match request {
         Request::Version => Answer::Version,
         _ => Answer::Accepted,
     }
@@ -27,7 +28,9 @@ fn answer_next(house: &mut HouseEnd, moment: u64) -> bool
 {
     match house.next() {
         Next::Asked { worker, ask } => {
-            house.answer(worker, moment, answer_to(ask));
+            let answer = answer_to(&ask.request);
+            drop(ask);
+            house.answer(worker, moment, answer);
             true
         }
         Next::Nothing => false,
@@ -107,15 +110,34 @@ fn answers_of_both<R: Threads + Wait + Send + Sync>(
 
 // The only call that takes memory: four ends and the house's, at which nothing has happened.
 #[test]
-fn ample(rt: HostRuntime) -> Result<(), Fail> {
-    let (mut house, mut workers) = ends(&rt, rt.alloc(), &Bell::silent())?;
-    assert!(&rt; matches!(house.next(), Next::Nothing));
+fn ample(rt: HostRuntime) {
+    let Ok((mut house, mut workers)) = ends(&rt, rt.alloc(), &Bell::silent()) else {
+        panic!(rt; "no memory")
+    };
+    assert!(&rt; is_nothing(house.next()));
     assert!(&rt; !workers.a.closed());
-    Ok(())
+    drop(house);
+    drop(workers);
 }
 
-fn ask_of(alloc: Global, request: Request) -> Result<Ask, Fail> {
-    Ok(Ask::of(alloc, b"ana-key-0123456789", request)?)
+fn is_nothing(next: Next) -> bool {
+    let is_nothing = matches!(&next, Next::Nothing);
+    drop(next);
+    is_nothing
+}
+
+fn ask_of(rt: &impl Abort, alloc: Global, request: Request) -> Ask {
+    Ask::of(alloc, b"ana-key-0123456789", request).expect(rt, "no memory")
+}
+
+// Whether a worker's ask is refused.
+fn is_refused<R: Wait>(worker: &mut WorkerEnd<R>, ask: Ask) -> bool
+    ensures { worker_place worker.new ≡ worker_place worker.old }
+{
+    let answer = worker.ask(ask);
+    let refused = answer.is_err();
+    drop(answer);
+    refused
 }
 
 // Whether one worker's asks are refused, and both see that the host has ended.
@@ -123,49 +145,65 @@ fn see_the_end<R: Wait>(c: &mut WorkerEnd<R>, d: &mut WorkerEnd<R>, asks: (Ask, 
     ensures { (worker_place c.new ≡ worker_place c.old) × (worker_place d.new ≡ worker_place d.old) }
 {
     let (first, second) = asks;
-    matches!(c.ask(first), Err(Closed)) && c.closed() && d.closed() && c.ask(second).is_err()
+    let first = is_refused(c, first);
+    let closed = c.closed() && d.closed();
+    let second = is_refused(c, second);
+    first && closed && second
 }
 
 #[test]
-fn a_closed_host_takes_no_ask(rt: HostRuntime) -> Result<(), Fail> {
-    let first = ask_of(rt.alloc(), Request::Version)?;
-    let second = ask_of(rt.alloc(), Request::Version)?;
-    let (mut house, mut workers) = ends(&rt, rt.alloc(), &Bell::silent())?;
+fn a_closed_host_takes_no_ask(rt: HostRuntime) {
+    let first = ask_of(&rt, rt.alloc(), Request::Version);
+    let second = ask_of(&rt, rt.alloc(), Request::Version);
+    let Ok((mut house, mut workers)) = ends(&rt, rt.alloc(), &Bell::silent()) else {
+        panic!(rt; "no memory")
+    };
     house.close();
     assert!(&rt; see_the_end(&mut workers.c, &mut workers.d, (first, second)));
-    house.end(workers);
-    Ok(())
+    drop(house.end(workers));
+}
+
+// Whether a version was asked for, and something that is accepted.
+fn are_answers(answers: (Option<Answer>, Option<Answer>)) -> bool {
+    let (first, second) = answers;
+    let are = matches!(&first, Some(Answer::Version)) && matches!(&second, Some(Answer::Accepted));
+    drop(first);
+    drop(second);
+    are
 }
 
 #[test]
 fn each_worker_gets_its_answer(rt: HostRuntime) -> Result<(), Fail> {
-    let version = ask_of(rt.alloc(), Request::Version)?;
-    let job = ask_of(rt.alloc(), Request::GetJob)?;
     let (mut house, workers) = ends(&rt, rt.alloc(), &Bell::silent())?;
+    let version = ask_of(&rt, rt.alloc(), Request::Version);
+    let job = ask_of(&rt, rt.alloc(), Request::GetJob);
     let Workers { mut a, b, c, mut d } = workers;
     let answers = answers_of_both(&rt, &mut a, &mut d, &mut house, (version, job));
     house.close();
-    house.end(Workers { a, b, c, d });
-    assert!(&rt; matches!(&answers, (Some(Answer::Version), Some(Answer::Accepted))));
+    drop(house.end(Workers { a, b, c, d }));
+    assert!(&rt; are_answers(answers));
     Ok(())
 }
 
 // Whether the bell has rung: a wait of 30 seconds ends within 10.
-fn has_rung<R: Clock>(rt: &R, ear: &mut Ear) -> Result<bool, Fail> {
-    let start = Instant::now(rt)?;
+fn has_rung<R: Clock + Abort>(rt: &R, ear: &mut Ear) -> bool {
+    let start = Instant::now(rt).expect(rt, "no time");
     ear.wait(30_000);
-    Ok(start.elapsed(rt)? < Duration::from_secs(10))
+    start.elapsed(rt).expect(rt, "no time") < Duration::from_secs(10)
 }
 
 // A worker that asks rings, also if the host has ended.
 #[test]
-fn an_ask_rings(rt: HostRuntime) -> Result<(), Fail> {
-    let ask = ask_of(rt.alloc(), Request::Version)?;
-    let (bell, mut ear) = bell_and_ear(&rt, rt.alloc())?;
-    let (mut house, mut workers) = ends(&rt, rt.alloc(), &bell)?;
+fn an_ask_rings(rt: HostRuntime) {
+    let ask = ask_of(&rt, rt.alloc(), Request::Version);
+    let (bell, mut ear) = bell_and_ear(&rt, rt.alloc()).expect(&rt, "no bell");
+    let Ok((mut house, mut workers)) = ends(&rt, rt.alloc(), &bell) else {
+        panic!(rt; "no memory")
+    };
     house.close();
-    assert!(&rt; matches!(workers.b.ask(ask), Err(Closed)));
-    house.end(workers);
-    assert!(&rt; has_rung(&rt, &mut ear)?);
-    Ok(())
+    assert!(&rt; is_refused(&mut workers.b, ask));
+    drop(house.end(workers));
+    assert!(&rt; has_rung(&rt, &mut ear));
+    drop(bell);
+    drop(ear);
 }

@@ -3,9 +3,9 @@ ghost use Rattle.std.specs.Prelude.{◌≡◌, false, true};
 ghost use Rattle.printer_link.specs.Memory.{link_world};
 
 use octo_keeper::{Keeper, KeeperFault, MemoryKeeper, MemoryShelf};
-use octo_outside::{CallList, MemoryClock, MemorySink, MemorySource};
+use octo_outside::{CallList, MemoryClock, MemoryConn, MemorySink, MemorySource};
 use octo_outside_doors::{Doors, MemoryDoor};
-use octo_serve_command::{HostEnd, Opened, host, write_host_report};
+use octo_serve_command::{HostEnd, HostReport, Opened, host, write_host_report};
 use printer_link::{FateList, MemoryLink};
 use std::alloc::Global;
 use std::process::Abort;
@@ -55,18 +55,49 @@ const UNSERVED: Row = Row {
     ..SHUT
 };
 
+fn put(rt: &impl Abort, files: &mut MemorySource, name: &str, bytes: &[u8]) {
+    assert!(rt; files.put(name, bytes).is_ok());
+}
+
 // A source whose file s has the settings.
 fn files(rt: &impl Abort, alloc: Global, row: &Row) -> MemorySource {
-    let mut files = MemorySource::new(
-        alloc,
-        calls(alloc, row.source_fails).expect(rt, "no memory"),
-    );
-    assert!(rt; files.put("s", row.settings).is_ok());
+    let fails = calls(alloc, row.source_fails).expect(rt, "no memory");
+    let mut files = MemorySource::new(alloc, fails);
+    put(rt, &mut files, "s", row.settings);
     files
 }
 
+fn door(rt: &impl Abort, alloc: Global, inputs: &[&[u8]], fails: &[u64]) -> MemoryDoor {
+    door_of(alloc, inputs, fails).expect(rt, "no memory")
+}
+
+// Doors, at the first of which the row's connections come.
+fn doors(rt: &impl Abort, alloc: Global, row: &Row) -> Doors<MemoryDoor> {
+    Doors {
+        a: door(rt, alloc, row.inputs, row.door_fails),
+        b: door(rt, alloc, &[], &[]),
+        c: door(rt, alloc, &[], &[]),
+        d: door(rt, alloc, &[], &[]),
+    }
+}
+
+fn link(rt: &impl Abort, alloc: Global) -> MemoryLink
+    ensures down { (link_world result).linked ≡ false }
+    ensures plain { result.story.oks.lost ≡ false }
+    ensures numbered { result.story.oks.numbered ≡ true }
+{
+    link_at(alloc, "p", FateList::new(alloc)).expect(rt, "no memory")
+}
+
+fn keeper(rt: &impl Abort, alloc: Global, fails: &[u64]) -> MemoryKeeper {
+    keeper_of(alloc, no_rows(alloc), fails).expect(rt, "no memory")
+}
+
+fn shelf(rt: &impl Abort, alloc: Global, fails: &[u64]) -> MemoryShelf {
+    shelf_of(alloc, fails).expect(rt, "no memory")
+}
+
 // What a host works with.
-#[derive(Drop)]
 struct HostBench {
     files: MemorySource,
     link: MemoryLink,
@@ -85,16 +116,11 @@ impl HostBench {
     {
         HostBench {
             files: files(rt, alloc, row),
-            link: link_at(alloc, "p", FateList::new(alloc)).expect(rt, "no memory"),
+            link: link(rt, alloc),
             clock: MemoryClock::new(0, 1),
-            keeper: keeper_of(alloc, no_rows(alloc), row.keeper_fails).expect(rt, "no memory"),
-            shelf: shelf_of(alloc, row.shelf_fails).expect(rt, "no memory"),
-            doors: Doors {
-                a: door_of(alloc, row.inputs, row.door_fails).expect(rt, "no memory"),
-                b: door_of(alloc, &[], &[]).expect(rt, "no memory"),
-                c: door_of(alloc, &[], &[]).expect(rt, "no memory"),
-                d: door_of(alloc, &[], &[]).expect(rt, "no memory"),
-            },
+            keeper: keeper(rt, alloc, row.keeper_fails),
+            shelf: shelf(rt, alloc, row.shelf_fails),
+            doors: doors(rt, alloc, row),
         }
     }
 
@@ -121,32 +147,63 @@ impl HostBench {
         )
     }
 
-    // Drops the bench in one place. A test in which it goes out of scope would have to prove that drop itself.
-    fn end(self) {}
+    // Drops its parts one by one. A test in which they go out of scope would have to prove their drops itself.
+    fn end(self) {
+        let HostBench {
+            files,
+            link,
+            clock,
+            keeper,
+            shelf,
+            doors,
+        } = self;
+        drop(files);
+        drop(link);
+        drop(clock);
+        drop(keeper);
+        drop(shelf);
+        drop(doors);
+    }
+}
+
+fn write(rt: &impl Abort, out: &mut MemorySink, report: &HostReport) {
+    assert!(rt; write_host_report(out, report).is_ok());
+}
+
+fn assert_text(rt: &impl Abort, alloc: Global, report: &HostReport, text: &[u8]) {
+    let mut out = MemorySink::new(alloc, CallList::new(alloc));
+    write(rt, &mut out, report);
+    assert_eq!(rt; out.written().unwrap_or(&[]), text);
+    drop(out);
 }
 
 // The end of a host is that of the row.
 fn assert_end(rt: &impl Abort, alloc: Global, ended: HostEnd, row: &Row) {
-    let mut out = MemorySink::new(alloc, CallList::new(alloc));
-    assert!(rt; write_host_report(&mut out, &ended.report).is_ok());
-    assert_eq!(rt; out.written().unwrap_or(&[]), row.text);
+    assert_text(rt, alloc, &ended.report, row.text);
     assert_eq!(rt; ended.report.code(), row.code);
     assert_eq!(rt; ended.history.is_some(), row.code == 0 || row.code == 12);
+    drop(ended);
 }
 
-// The statuses of the replies at a door are these, in order; `-` for a connection without one.
-fn assert_replies(rt: &impl Abort, alloc: Global, door: &MemoryDoor, wanted: &[u8]) {
+// The status of a connection's reply; `-` without one.
+fn status_of(conn: &MemoryConn) -> &[u8] {
+    conn.written().unwrap_or(b"").get(9..12).unwrap_or(b"-")
+}
+
+// The statuses of the replies at a door, in order.
+fn statuses(rt: &impl Abort, alloc: Global, door: &MemoryDoor) -> Vec<u8> {
     let mut texts = Vec::new(alloc);
     for conn in door.served().unwrap_or(&[]) {
-        let written = conn.written().unwrap_or(b"");
-        assert!(rt;
-            texts
-                .extend_from_slice(written.get(9..12).unwrap_or(b"-"))
-                .is_ok()
-        );
+        assert!(rt; texts.extend_from_slice(status_of(conn)).is_ok());
         assert!(rt; texts.push(b' ').is_ok());
     }
+    texts
+}
+
+fn assert_replies(rt: &impl Abort, alloc: Global, door: &MemoryDoor, wanted: &[u8]) {
+    let texts = statuses(rt, alloc, door);
     assert_eq!(rt; texts.as_slice(), wanted);
+    drop(texts);
 }
 
 // A host by a row.
@@ -168,83 +225,95 @@ fn ample(rt: HostRuntime) {
 }
 
 // The settings are refused, or can't be read; the tables or the files can't.
+const REFUSED: [Row; 4] = [
+    Row {
+        settings: b"[printer]\n",
+        code: 7,
+        text: b"settings: printer.ports: missing\n",
+        ..UNSERVED
+    },
+    Row {
+        source_fails: &[1],
+        code: 4,
+        text: b"source failed\n",
+        ..UNSERVED
+    },
+    Row {
+        keeper_fails: &[1],
+        code: 9,
+        text: b"keeper failed\n",
+        ..UNSERVED
+    },
+    Row {
+        shelf_fails: &[1],
+        code: 9,
+        text: b"shelf failed\n",
+        ..UNSERVED
+    },
+];
+
 #[test]
 fn unserved(rt: HostRuntime) {
-    let rows = [
-        Row {
-            settings: b"[printer]\n",
-            code: 7,
-            text: b"settings: printer.ports: missing\n",
-            ..UNSERVED
-        },
-        Row {
-            source_fails: &[1],
-            code: 4,
-            text: b"source failed\n",
-            ..UNSERVED
-        },
-        Row {
-            keeper_fails: &[1],
-            code: 9,
-            text: b"keeper failed\n",
-            ..UNSERVED
-        },
-        Row {
-            shelf_fails: &[1],
-            code: 9,
-            text: b"shelf failed\n",
-            ..UNSERVED
-        },
-    ];
-    for row in &rows {
+    for row in &REFUSED {
         assert_row(&rt, rt.alloc(), row);
     }
 }
 
 // A door that fails at once, and one that fails after a call: the others serve on until they end.
+const AT_ONCE: Row = Row {
+    door_fails: &[1],
+    code: 12,
+    text: b"served 0 calls\ndoor failed\n",
+    replies: b"",
+    ..SHUT
+};
+
+const LATER: Row = Row {
+    door_fails: &[2],
+    code: 12,
+    text: b"served 1 calls\ndoor failed\n",
+    replies: b"200 ",
+    ..SHUT
+};
+
 #[test]
 fn a_door_that_fails(rt: HostRuntime) {
-    let at_once = Row {
-        door_fails: &[1],
-        code: 12,
-        text: b"served 0 calls\ndoor failed\n",
-        replies: b"",
-        ..SHUT
-    };
-    let later = Row {
-        door_fails: &[2],
-        code: 12,
-        text: b"served 1 calls\ndoor failed\n",
-        replies: b"200 ",
-        ..SHUT
-    };
-    assert_row(&rt, rt.alloc(), &at_once);
-    assert_row(&rt, rt.alloc(), &later);
+    assert_row(&rt, rt.alloc(), &AT_ONCE);
+    assert_row(&rt, rt.alloc(), &LATER);
 }
 
 // Why the tables of a keeper aren't loaded.
 fn load_fault<K: Keeper>(alloc: Global, keeper: &mut K) -> Option<KeeperFault> {
-    match keeper.load(alloc) {
-        Ok(_) => None,
-        Err(fault) => Some(fault),
-    }
+    keeper.load(alloc).err()
 }
 
-// A keeper that wasn't opened returns the fault of its opening, and one that was its tables.
-#[test]
-fn opened_keepers(rt: HostRuntime) {
-    let alloc = rt.alloc();
-    for fault in [KeeperFault::Failed, KeeperFault::NoMemory] {
-        let mut unopened: Opened<MemoryKeeper> = Opened::new(Err(fault));
-        assert!(rt; load_fault(alloc, &mut unopened) == Some(fault));
-        assert!(rt; unopened.backup(alloc) == Err(fault));
-        assert!(rt; unopened.into_keeper().is_err());
-    }
-    let mut opened = Opened::new(Ok(keeper_of(alloc, no_rows(alloc), &[]).expect(
-        &rt,
-        "no memory",
-    )));
+// Whether a keeper was opened.
+fn was_opened(keeper: Opened<MemoryKeeper>) -> bool {
+    let kept = keeper.into_keeper().ok();
+    let is_some = kept.is_some();
+    drop(kept);
+    is_some
+}
+
+// A keeper that wasn't opened returns the fault of its opening.
+fn assert_unopened(rt: &impl Abort, alloc: Global, fault: KeeperFault) {
+    let mut unopened: Opened<MemoryKeeper> = Opened::new(Err(fault));
+    assert!(rt; load_fault(alloc, &mut unopened) == Some(fault));
+    assert!(rt; unopened.backup(alloc) == Err(fault));
+    assert!(rt; !was_opened(unopened));
+}
+
+// One that was opened returns its tables.
+fn assert_opened(rt: &impl Abort, alloc: Global) {
+    let mut opened = Opened::new(Ok(keeper(rt, alloc, &[])));
     assert!(rt; load_fault(alloc, &mut opened).is_none());
     assert!(rt; opened.backup(alloc) == Ok(()));
-    assert!(rt; opened.into_keeper().is_ok());
+    assert!(rt; was_opened(opened));
+}
+
+#[test]
+fn opened_keepers(rt: HostRuntime) {
+    assert_unopened(&rt, rt.alloc(), KeeperFault::Failed);
+    assert_unopened(&rt, rt.alloc(), KeeperFault::NoMemory);
+    assert_opened(&rt, rt.alloc());
 }

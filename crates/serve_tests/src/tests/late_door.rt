@@ -60,17 +60,15 @@ impl<R: Clock + Copy + Send + Drop> Door for LateDoor<R> {
 
 // A gate that is closed.
 pub(super) fn gate(rt: &impl Abort, alloc: Global) -> Arc<AtomicBool> {
-    match Arc::new(alloc, AtomicBool::new(false)) {
-        Ok(gate) => gate,
-        Err(_) => panic!(rt; "no memory"),
-    }
+    Arc::new(alloc, AtomicBool::new(false)).expect(rt, "no memory")
 }
 
 fn same_gate(rt: &impl Abort, gate: &Arc<AtomicBool>) -> Arc<AtomicBool> {
-    match Arc::try_clone(gate) {
-        Ok(gate) => gate,
-        Err(_) => panic!(rt; "no memory"),
-    }
+    Arc::try_clone(gate).expect(rt, "no memory")
+}
+
+fn door(rt: &impl Abort, alloc: Global, inputs: &[&[u8]]) -> MemoryDoor {
+    door_of(alloc, inputs, &[]).expect(rt, "no memory")
 }
 
 impl<R: Abort + Copy + Drop> LateDoor<R> {
@@ -85,7 +83,7 @@ impl<R: Abort + Copy + Drop> LateDoor<R> {
     ) -> LateDoor<R> {
         LateDoor {
             rt: *rt,
-            door: door_of(alloc, inputs, &[]).expect(rt, "no memory"),
+            door: door(rt, alloc, inputs),
             gate: same_gate(rt, gate),
             waits,
             finished: 0,

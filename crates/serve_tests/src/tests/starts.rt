@@ -44,20 +44,24 @@ fn connecting(rt: &impl Abort, alloc: Global) -> Bench
     bench
 }
 
+// What the first worker is asked.
+const FIRST: [&[u8]; 13] = [
+    VERSION, VERSION, VERSION, VERSION, VERSION, VERSION, VERSION, VERSION, VERSION, VERSION,
+    START, JOB, SHUTDOWN,
+];
+
 // Doors at which two workers ask to start a print, at once after ten calls of the one. Each call is followed by a turn of
 // the link, so that the printer is operational by then.
 fn starting_doors<R: Abort + Copy + Drop>(rt: &R, alloc: Global) -> Doors<LateDoor<R>> {
     let gate = gate(rt, alloc);
-    let first: &[&[u8]] = &[
-        VERSION, VERSION, VERSION, VERSION, VERSION, VERSION, VERSION, VERSION, VERSION, VERSION,
-        START, JOB, SHUTDOWN,
-    ];
-    Doors {
-        a: LateDoor::new(rt, alloc, &gate, first, false, 10),
+    let doors = Doors {
+        a: LateDoor::new(rt, alloc, &gate, &FIRST, false, 10),
         b: LateDoor::new(rt, alloc, &gate, &[START], true, 0),
         c: LateDoor::new(rt, alloc, &gate, &[], false, 0),
         d: LateDoor::new(rt, alloc, &gate, &[], false, 0),
-    }
+    };
+    drop(gate);
+    doors
 }
 
 fn is_started(reply: &[u8]) -> bool {

@@ -10,7 +10,6 @@ use octo_settings::SettingsFault;
 use send_window::SessionEnd;
 use std::alloc::Global;
 use std::process::Abort;
-use std::test::Fail;
 use temp_rules::HotLine;
 
 #[test]
@@ -70,11 +69,10 @@ fn demos(rt: HostRuntime) {
 }
 
 #[test]
-fn rests(rt: HostRuntime) -> Result<(), Fail> {
+fn rests(rt: HostRuntime) {
     let text = b"G90\nM82\nG92 X0.000000 Y0.000000 Z0.000000 E0.000000\n";
-    let rest = Report::Rest(Blob::from_slice(rt.alloc(), text)?);
-    assert_report(&rt, rest, 0, text);
-    Ok(())
+    let rest = Blob::from_slice(rt.alloc(), text).expect(&rt, "no memory");
+    assert_report(&rt, Report::Rest(rest), 0, text);
 }
 
 #[test]

@@ -2,7 +2,6 @@
 use super::*;
 use std::alloc::Global;
 use std::process::Abort;
-use std::test::Fail;
 
 // A key of the printer that is out of its range, or of the wrong kind.
 const PRINTERS: [(&str, Why, &str); 20] = [
@@ -37,8 +36,8 @@ const PRINTERS: [(&str, Why, &str); 20] = [
 ];
 
 #[test]
-fn printers(rt: HostRuntime) -> Result<(), Fail> {
-    faults(&rt, rt.alloc(), PRINTER, ADMIN, &PRINTERS)
+fn printers(rt: HostRuntime) {
+    faults(&rt, PRINTER, ADMIN, &PRINTERS);
 }
 
 // Ports that are missing, of the wrong kind, too few, too many or without a name.
@@ -59,36 +58,30 @@ const SEVENTEEN: &str =
 '12', '13', '14', '15', '16', '17']";
 
 #[test]
-fn ports(rt: HostRuntime) -> Result<(), Fail> {
-    faults(&rt, rt.alloc(), "", ADMIN, &PORTS)
+fn ports(rt: HostRuntime) {
+    faults(&rt, "", ADMIN, &PORTS);
 }
 
 // A value of a hundred bytes between these texts is read.
-fn hundred_read(
-    rt: &impl Abort,
-    alloc: Global,
-    head: &str,
-    before: &str,
-    after: &str,
-) -> Result<(), Fail> {
-    let text = format!(in alloc; "{before}{HUNDRED}{after}")?;
-    let read = is_read(alloc, head, text.as_str(), "")?;
-    assert!(rt; read, "{before}");
-    Ok(())
+fn hundred_read(rt: &(impl Abort + Alloc<A = Global>), head: &str, before: &str, after: &str) {
+    let text = format!(in rt.alloc(); "{before}{HUNDRED}{after}").expect(rt, "no memory");
+    let is_read = is_read(rt, head, text.as_str(), "");
+    drop(text);
+    assert!(rt; is_read, "{before}");
 }
 
 // A value of a hundred bytes between these texts is read, and one of a byte more is out of range.
 fn hundred_at_most(
-    rt: &impl Abort,
-    alloc: Global,
+    rt: &(impl Abort + Alloc<A = Global>),
     head: &str,
     before: &str,
     after: &str,
     key: &str,
-) -> Result<(), Fail> {
-    hundred_read(rt, alloc, head, before, after)?;
-    let longer = format!(in alloc; "{before}{HUNDRED}x{after}")?;
-    faults(rt, alloc, head, "", &[(longer.as_str(), Why::Range, key)])
+) {
+    hundred_read(rt, head, before, after);
+    let longer = format!(in rt.alloc(); "{before}{HUNDRED}x{after}").expect(rt, "no memory");
+    assert_fault(rt, head, "", longer.as_str(), Why::Range, key);
+    drop(longer);
 }
 
 // Fifteen ports, and the beginning of one more.
@@ -104,12 +97,11 @@ const NAMELESS: &str = "[printer]\nports = ['p']\n[admin]\n\
 key_sha256 = '3d6dc258f967781f8598c11af4d699e0a7f3f5f52f6b1a0f0931150933a2d5ae'";
 
 #[test]
-fn long_names(rt: HostRuntime) -> Result<(), Fail> {
-    let alloc = rt.alloc();
-    hundred_at_most(&rt, alloc, PRINTER_AND_ADMIN, EIGHT, "']", "serve.origins")?;
-    hundred_at_most(&rt, alloc, ADMIN, SIXTEEN, "']", "printer.ports")?;
-    hundred_at_most(&rt, alloc, ADMIN, MATERIAL, "'", "printer.material")?;
-    hundred_at_most(&rt, alloc, NAMELESS, "name = '", "'", "admin.name")
+fn long_names(rt: HostRuntime) {
+    hundred_at_most(&rt, PRINTER_AND_ADMIN, EIGHT, "']", "serve.origins");
+    hundred_at_most(&rt, ADMIN, SIXTEEN, "']", "printer.ports");
+    hundred_at_most(&rt, ADMIN, MATERIAL, "'", "printer.material");
+    hundred_at_most(&rt, NAMELESS, "name = '", "'", "admin.name");
 }
 
 // Seven origins, and the beginning of one more.
@@ -146,8 +138,8 @@ const ORIGINS: [(&str, Why, &str); 6] = [
 const NINE: &str = "[serve]\norigins = ['1', '2', '3', '4', '5', '6', '7', '8', '9']";
 
 #[test]
-fn origins(rt: HostRuntime) -> Result<(), Fail> {
-    faults(&rt, rt.alloc(), "", PRINTER_AND_ADMIN, &ORIGINS)
+fn origins(rt: HostRuntime) {
+    faults(&rt, "", PRINTER_AND_ADMIN, &ORIGINS);
 }
 
 const PRINTER_AND_ADMIN: &str = "[printer]\nports = ['p']\n[admin]\nname = 'root'\n\
@@ -191,8 +183,8 @@ const SECTIONS: [(&str, Why, &str); 16] = [
 ];
 
 #[test]
-fn sections(rt: HostRuntime) -> Result<(), Fail> {
-    faults(&rt, rt.alloc(), "", PRINTER_AND_ADMIN, &SECTIONS)
+fn sections(rt: HostRuntime) {
+    faults(&rt, "", PRINTER_AND_ADMIN, &SECTIONS);
 }
 
 // A printer, and an admin; lines that follow belong to him.
@@ -228,52 +220,56 @@ const ADMINS: [(&str, Why, &str); 9] = [
 ];
 
 #[test]
-fn admins(rt: HostRuntime) -> Result<(), Fail> {
-    faults(&rt, rt.alloc(), IN_ADMIN, "", &ADMINS)?;
-    let missing = [("", Why::Missing, "admin.name")];
-    faults(&rt, rt.alloc(), PRINTER, "", &missing)?;
-    let no_table = [("", Why::Kind, "admin")];
-    faults(&rt, rt.alloc(), "admin = 1", PRINTER, &no_table)
+fn admins(rt: HostRuntime) {
+    faults(&rt, IN_ADMIN, "", &ADMINS);
+    assert_fault(&rt, PRINTER, "", "", Why::Missing, "admin.name");
+    assert_fault(&rt, "admin = 1", PRINTER, "", Why::Kind, "admin");
 }
 
 // Whether these bytes aren't TOML.
 fn is_not_toml(alloc: Global, bytes: &[u8]) -> bool {
-    matches!(read_settings(alloc, bytes), Err(SettingsFault::NotToml))
+    let fault = read_bytes(alloc, bytes).err();
+    let is_it = matches!(&fault, Some(SettingsFault::NotToml));
+    drop(fault);
+    is_it
 }
+
+// An array without an end, no key, a key that comes twice, and bytes that are no text.
+const NOT_TOML: [&[u8]; 4] = [b"ports = [", b"= 1", b"a = 1\na = 2\n", b"# \xff\n"];
 
 #[test]
 fn not_toml(rt: HostRuntime) {
-    for bytes in [
-        b"ports = [".as_slice(),
-        b"= 1",
-        b"a = 1\na = 2\n",
-        b"# \xff\n",
-    ] {
+    for bytes in &NOT_TOML {
         assert!(&rt; is_not_toml(rt.alloc(), bytes));
     }
 }
 
 // Good settings that a comment makes that long, in bytes.
-fn settings_of(alloc: Global, length: usize) -> Result<String, Fail> {
+fn long_settings(rt: &(impl Abort + Alloc<A = Global>), length: usize) -> String {
     let shorter = PRINTER_AND_ADMIN.len() + 1;
-    let rest = "x".repeat(alloc, length.saturating_sub(shorter))?;
-    Ok(format!(in alloc; "{PRINTER_AND_ADMIN}#{rest}")?)
+    let rest = "x"
+        .repeat(rt.alloc(), length.saturating_sub(shorter))
+        .expect(rt, "no memory");
+    let settings = format!(in rt.alloc(); "{PRINTER_AND_ADMIN}#{rest}").expect(rt, "no memory");
+    drop(rest);
+    settings
 }
 
 // Settings may have 1,048,576 bytes.
 #[test]
-fn longest(rt: HostRuntime) -> Result<(), Fail> {
-    let settings = settings_of(rt.alloc(), 1_048_576)?;
-    assert_eq!(rt; settings.len(), 1_048_576);
-    let is_read = read_settings(rt.alloc(), settings.as_bytes()).is_ok();
-    assert!(rt; is_read);
-    Ok(())
+fn longest(rt: HostRuntime) {
+    let text = long_settings(&rt, 1_048_576);
+    assert_eq!(rt; text.len(), 1_048_576);
+    let fault = read_bytes(rt.alloc(), text.as_bytes()).err();
+    drop(text);
+    assert!(&rt; fault.is_none());
+    drop(fault);
 }
 
 // Those of one byte more aren't TOML.
 #[test]
-fn too_long(rt: HostRuntime) -> Result<(), Fail> {
-    let settings = settings_of(rt.alloc(), 1_048_577)?;
-    assert!(rt; is_not_toml(rt.alloc(), settings.as_bytes()));
-    Ok(())
+fn too_long(rt: HostRuntime) {
+    let text = long_settings(&rt, 1_048_577);
+    assert!(&rt; is_not_toml(rt.alloc(), text.as_bytes()));
+    drop(text);
 }

@@ -2,7 +2,7 @@
 use super::*;
 use job_desk::Point;
 use std::alloc::Global;
-use std::test::Fail;
+use std::process::Abort;
 
 // Groups: their names, and then what each has, by byte order of their names.
 const GROUPS: [(&str, Why, &str); 10] = [
@@ -23,22 +23,22 @@ const MANY: &str = "a = []\nb = []\nc = []\nd = []\ne = []\nf = []\ng = []\nh = 
 i = []\nj = []\nk = []\nl = []\nm = []\nn = []\no = []\np = []";
 
 // One more. Their number is tested before their names.
-const ONE_MORE: [(&str, Why, &str); 1] = [("A = ['BAKE']", Why::Range, "groups")];
+const ONE_MORE: &str = "A = ['BAKE']";
 
 // A printer; lines that follow are groups.
 const IN_GROUPS: &str = "[printer]\nports = ['p']\n[groups]";
 
 #[test]
-fn groups(rt: HostRuntime) -> Result<(), Fail> {
-    faults(&rt, rt.alloc(), IN_GROUPS, ADMIN, &GROUPS)
+fn groups(rt: HostRuntime) {
+    faults(&rt, IN_GROUPS, ADMIN, &GROUPS);
 }
 
 #[test]
-fn many_groups(rt: HostRuntime) -> Result<(), Fail> {
-    let alloc = rt.alloc();
-    let head = format!(in alloc; "{IN_GROUPS}\n{MANY}")?;
-    assert!(rt; is_read(alloc, head.as_str(), "", ADMIN)?);
-    faults(&rt, alloc, head.as_str(), ADMIN, &ONE_MORE)
+fn many_groups(rt: HostRuntime) {
+    let head = format!(in rt.alloc(); "{IN_GROUPS}\n{MANY}").expect(&rt, "no memory");
+    assert!(&rt; is_read(&rt, head.as_str(), "", ADMIN));
+    assert_fault(&rt, head.as_str(), ADMIN, ONE_MORE, Why::Range, "groups");
+    drop(head);
 }
 
 // A group's key, of its first 93 bytes.
@@ -48,11 +48,17 @@ const NINETY_THREE: &str =
 
 // The key of a group has at most the first 93 bytes of its name.
 #[test]
-fn long_group(rt: HostRuntime) -> Result<(), Fail> {
-    let alloc = rt.alloc();
-    let text = format!(in alloc; "{HUNDRED} = 1")?;
-    let long = [(text.as_str(), Why::Kind, NINETY_THREE)];
-    faults(&rt, alloc, IN_GROUPS, ADMIN, &long)
+fn long_group(rt: HostRuntime) {
+    let text = format!(in rt.alloc(); "{HUNDRED} = 1").expect(&rt, "no memory");
+    assert_fault(
+        &rt,
+        IN_GROUPS,
+        ADMIN,
+        text.as_str(),
+        Why::Kind,
+        NINETY_THREE,
+    );
+    drop(text);
 }
 
 // Scripts that aren't lists of commands.
@@ -104,37 +110,43 @@ const SCRIPTS: [(&str, Why, &str); 8] = [
 const IN_SCRIPTS: &str = "[printer]\nports = ['p']\n[scripts]";
 
 #[test]
-fn scripts(rt: HostRuntime) -> Result<(), Fail> {
-    faults(&rt, rt.alloc(), IN_SCRIPTS, ADMIN, &SCRIPTS)
+fn scripts(rt: HostRuntime) {
+    faults(&rt, IN_SCRIPTS, ADMIN, &SCRIPTS);
 }
 
 // The point of a script that has a template.
-fn template_of(alloc: Global, scripts: &str) -> Result<Option<Point>, Fail> {
-    match read(alloc, IN_SCRIPTS, scripts, ADMIN)?.err() {
-        Some(SettingsFault::Template { script }) => Ok(Some(script)),
-        _ => Ok(None),
-    }
+fn template_of(rt: &(impl Abort + Alloc<A = Global>), scripts: &str) -> Option<Point> {
+    let fault = read(rt, IN_SCRIPTS, scripts, ADMIN).err();
+    let point = match &fault {
+        Some(SettingsFault::Template { script }) => Some(*script),
+        _ => None,
+    };
+    drop(fault);
+    point
 }
 
 // A script of one line and that many more.
-fn script(alloc: Global, more: usize) -> Result<String, Fail> {
-    let more = ", 'M84'".repeat(alloc, more)?;
-    Ok(format!(in alloc; "afterPrintDone = ['{{%'{more}]")?)
+fn script(rt: &(impl Abort + Alloc<A = Global>), more: usize) -> String {
+    let more = ", 'M84'".repeat(rt.alloc(), more).expect(rt, "no memory");
+    let text = format!(in rt.alloc(); "afterPrintDone = ['{{%'{more}]").expect(rt, "no memory");
+    drop(more);
+    text
 }
 
 // A script has at most 64 lines. Their number is tested before them.
 #[test]
-fn most_lines(rt: HostRuntime) -> Result<(), Fail> {
-    let most = script(rt.alloc(), 63)?;
-    assert_eq!(rt; template_of(rt.alloc(), most.as_str())?, Some(Point::Done));
-    Ok(())
+fn most_lines(rt: HostRuntime) {
+    let most = script(&rt, 63);
+    assert_eq!(rt; template_of(&rt, most.as_str()), Some(Point::Done));
+    drop(most);
 }
 
 #[test]
-fn many_lines(rt: HostRuntime) -> Result<(), Fail> {
-    let many = script(rt.alloc(), 64)?;
-    let long = [(many.as_str(), Why::Range, "scripts.afterPrintDone")];
-    faults(&rt, rt.alloc(), IN_SCRIPTS, ADMIN, &long)
+fn many_lines(rt: HostRuntime) {
+    let many = script(&rt, 64);
+    let key = "scripts.afterPrintDone";
+    assert_fault(&rt, IN_SCRIPTS, ADMIN, many.as_str(), Why::Range, key);
+    drop(many);
 }
 
 // Scripts of which a line has a template.
@@ -145,30 +157,41 @@ const TEMPLATES: [&str; 3] = [
 ];
 
 #[test]
-fn templates(rt: HostRuntime) -> Result<(), Fail> {
-    for scripts in TEMPLATES {
-        let point = template_of(rt.alloc(), scripts)?;
-        assert_eq!(rt; point, Some(Point::Started), "{scripts}");
+fn templates(rt: HostRuntime) {
+    for scripts in &TEMPLATES {
+        assert_eq!(rt;
+            template_of(&rt, scripts),
+            Some(Point::Started),
+            "{scripts}"
+        );
     }
-    Ok(())
 }
 
 // The point and the line of a script that is too hot.
-fn hot_line(alloc: Global, head: &str, scripts: &str) -> Result<Option<(Point, u32)>, Fail> {
-    match read(alloc, head, ADMIN, scripts)?.err() {
-        Some(SettingsFault::TooHot { script, line }) => Ok(Some((script, line))),
-        _ => Ok(None),
-    }
+fn hot_line(
+    rt: &(impl Abort + Alloc<A = Global>),
+    head: &str,
+    scripts: &str,
+) -> Option<(Point, u32)> {
+    let fault = read(rt, head, ADMIN, scripts).err();
+    let place = match &fault {
+        Some(SettingsFault::TooHot { script, line }) => Some((*script, *line)),
+        _ => None,
+    };
+    drop(fault);
+    place
 }
+
+// A printer with a limit.
+const COOL: &str = "[printer]\nports = ['p']\n[limits]\ntool = 250";
+
+// Two scripts, the second of which has a hotter command.
+const HOT: &str = "[scripts]\nafterPrintPaused = ['M104 S200']\n\
+afterPrintDone = ['G28', 'M104 S250', 'M109 R260']\n";
 
 // The limits are those of the settings; lines are counted from 1.
 #[test]
-fn too_hot(rt: HostRuntime) -> Result<(), Fail> {
-    let scripts = "[scripts]\nafterPrintPaused = ['M104 S200']\n\
-afterPrintDone = ['G28', 'M104 S250', 'M109 R260']\n";
-    let limits = "[printer]\nports = ['p']\n[limits]\ntool = 250";
-    let hot = hot_line(rt.alloc(), limits, scripts)?;
-    assert!(&rt; matches!(hot, Some((Point::Done, 3))));
-    assert!(&rt; is_read(rt.alloc(), PRINTER, ADMIN, scripts)?);
-    Ok(())
+fn too_hot(rt: HostRuntime) {
+    assert_eq!(rt; hot_line(&rt, COOL, HOT), Some((Point::Done, 3)));
+    assert!(&rt; is_read(&rt, PRINTER, ADMIN, HOT));
 }

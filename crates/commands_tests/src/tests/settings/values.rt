@@ -3,10 +3,10 @@ use super::*;
 use arrayvec::ArrayVec;
 use byte_text::Name;
 use job_desk::{Point, Scripts};
-use octo_access::{Permission, Policy, UserRow, digest_of};
+use octo_access::{Groups, Permission, Policy, UserRow, digest_of};
 use std::alloc::Global;
+use std::mem;
 use std::process::Abort;
-use std::test::Fail;
 
 // Every key at its least.
 const LEAST: &str = "[printer]\nports = ['p']\nwindow = 1\nlimit_ms = 1000\npoll_ms = 1000\n\
@@ -58,20 +58,20 @@ fn assert_values(
 }
 
 #[test]
-fn least(rt: HostRuntime) -> Result<(), Fail> {
-    let settings = read(rt.alloc(), LEAST, ADMIN, "")??;
+fn least(rt: HostRuntime) {
+    let settings = settings_of(&rt, LEAST, ADMIN, "");
     assert_values(&rt, &settings, 1, "A", [1, 1_000, 1_000, 0, 0, 1]);
     assert!(rt; settings.boot_ms == Some(0) && !settings.connect && !settings.numbered_oks);
-    Ok(())
+    drop(settings);
 }
 
 #[test]
-fn greatest(rt: HostRuntime) -> Result<(), Fail> {
-    let settings = read(rt.alloc(), GREATEST, ADMIN, "")??;
+fn greatest(rt: HostRuntime) {
+    let settings = settings_of(&rt, GREATEST, ADMIN, "");
     let wanted = [16, 600_000, 600_000, 500, 200, 4_000_000_000];
     assert_values(&rt, &settings, 2, "PLA-1.0_(x)+", wanted);
     assert!(rt; settings.boot_ms == Some(60_000) && settings.connect && settings.numbered_oks);
-    Ok(())
+    drop(settings);
 }
 
 // These are its origins, in their order.
@@ -82,27 +82,27 @@ fn has_origins(rt: &impl Abort, settings: &Settings, wanted: &[&str]) {
     }
 }
 
+// Settings with this section have these origins.
+fn assert_origins(rt: &(impl Abort + Alloc<A = Global>), section: &str, wanted: &[&str]) {
+    let settings = settings_of(rt, PRINTER, ADMIN, section);
+    has_origins(rt, &settings, wanted);
+    drop(settings);
+}
+
 #[test]
-fn origins(rt: HostRuntime) -> Result<(), Fail> {
-    let alloc = rt.alloc();
-    let none = read(alloc, PRINTER, ADMIN, "[serve]\norigins = []")??;
-    has_origins(&rt, &none, &[]);
+fn origins(rt: HostRuntime) {
+    assert_origins(&rt, "[serve]\norigins = []", &[]);
     let two = "[serve]\norigins = ['http://a:8080', 'https://b']\n";
-    has_origins(
-        &rt,
-        &read(alloc, PRINTER, ADMIN, two)??,
-        &["http://a:8080", "https://b"],
-    );
-    Ok(())
+    assert_origins(&rt, two, &["http://a:8080", "https://b"]);
 }
 
 // The least window with numbers.
 #[test]
-fn numbered_oks(rt: HostRuntime) -> Result<(), Fail> {
+fn numbered_oks(rt: HostRuntime) {
     let two = "[printer]\nports = ['p']\nwindow = 2\nnumbered_oks = true\n";
-    let settings = read(rt.alloc(), two, ADMIN, "")??;
+    let settings = settings_of(&rt, two, ADMIN, "");
     assert!(rt; settings.window == 2 && settings.numbered_oks);
-    Ok(())
+    drop(settings);
 }
 
 fn are_defaults(rt: &impl Abort, settings: &Settings, ports: usize) {
@@ -114,17 +114,19 @@ fn are_defaults(rt: &impl Abort, settings: &Settings, ports: usize) {
 }
 
 #[test]
-fn defaults(rt: HostRuntime) -> Result<(), Fail> {
-    are_defaults(&rt, &read(rt.alloc(), PRINTER, ADMIN, "")??, 1);
-    Ok(())
+fn defaults(rt: HostRuntime) {
+    let settings = settings_of(&rt, PRINTER, ADMIN, "");
+    are_defaults(&rt, &settings, 1);
+    drop(settings);
 }
 
 // Keys that aren't named, and scripts by other names, are passed over.
 #[test]
-fn other_keys(rt: HostRuntime) -> Result<(), Fail> {
+fn other_keys(rt: HostRuntime) {
     let other = "colour = 'red'\n[scripts]\nbeforeToolChange = ['{{x}}']\n[slicer]\nlayers = 1\n";
-    are_defaults(&rt, &read(rt.alloc(), PRINTER, ADMIN, other)??, 1);
-    Ok(())
+    let settings = settings_of(&rt, PRINTER, ADMIN, other);
+    are_defaults(&rt, &settings, 1);
+    drop(settings);
 }
 
 #[test]
@@ -132,6 +134,7 @@ fn plain(rt: HostRuntime) {
     let settings = Settings::plain(rt.alloc());
     are_defaults(&rt, &settings, 0);
     assert!(&rt; settings.admin.is_none());
+    drop(settings);
 }
 
 // Whether these settings' admin is root, with the digest of this key.
@@ -146,58 +149,68 @@ fn have_root(settings: &Settings, key: &[u8]) -> bool {
 const CAPITALS: &str = "[admin]\nname = 'root'\n\
 key_sha256 = '3D6DC258F967781F8598C11AF4D699E0A7F3F5F52F6B1A0F0931150933A2D5AE'\n";
 
+fn assert_root(rt: &(impl Abort + Alloc<A = Global>), admin: &str) {
+    let settings = settings_of(rt, PRINTER, admin, "");
+    assert!(rt; have_root(&settings, b"ana-key-0123456789"));
+    drop(settings);
+}
+
 #[test]
-fn admin(rt: HostRuntime) -> Result<(), Fail> {
-    for admin in [ADMIN, CAPITALS] {
-        let settings = read(rt.alloc(), PRINTER, admin, "")??;
-        assert!(&rt; have_root(&settings, b"ana-key-0123456789"));
-    }
-    Ok(())
+fn admin(rt: HostRuntime) {
+    assert_root(&rt, ADMIN);
+    assert_root(&rt, CAPITALS);
 }
 
 // An active user of one group.
-fn member(group: &str) -> Result<UserRow, Fail> {
+fn member(rt: &impl Abort, group: &str) -> UserRow {
     let mut groups = ArrayVec::new();
-    groups.push(Name::of(group)?);
-    Ok(UserRow {
-        name: Name::of("ana")?,
+    groups.push(Name::of(group).expect(rt, "long"));
+    UserRow {
+        name: Name::of("ana").expect(rt, "long"),
         digest: [0; 32],
         groups,
         active: true,
-    })
+    }
 }
 
-// Whether a user of each group has a permission.
-fn assert_allowed(
-    rt: &impl Abort,
-    policy: &Policy,
-    rows: &[(&str, Permission, bool)],
-) -> Result<(), Fail> {
-    for (group, permission, wanted) in rows {
-        let allowed = policy.allowed(&member(group)?, *permission);
-        assert!(rt; allowed == *wanted, "{group}");
-    }
-    Ok(())
+// Whether a user of a group has a permission.
+fn is_allowed(rt: &impl Abort, policy: &Policy, group: &str, permission: Permission) -> bool {
+    let user = member(rt, group);
+    let allowed = policy.allowed(&user, permission);
+    drop(user);
+    allowed
 }
 
 const GROUPS: &str =
     "[groups]\nprinters = ['PRINT', 'STATUS']\nselectors = ['FILES_SELECT']\nidle = []\n";
 
-fn policy_of(alloc: Global, groups: &str) -> Result<Policy, Fail> {
-    let settings = read(alloc, PRINTER, ADMIN, groups)??;
-    Ok(Policy::new(settings.groups, settings.admin))
+// The policy of settings with these groups.
+fn policy_of(rt: &(impl Abort + Alloc<A = Global>), groups: &str) -> Policy {
+    let mut settings = settings_of(rt, PRINTER, ADMIN, groups);
+    let groups = mem::replace(&mut settings.groups, Groups::new(rt.alloc()));
+    let admin = settings.admin.take();
+    drop(settings);
+    Policy::new(groups, admin)
 }
 
+// A group, and whether its users have a permission.
+const ALLOWED: [(&str, Permission, bool); 4] = [
+    ("printers", Permission::Print, true),
+    ("printers", Permission::Control, false),
+    ("selectors", Permission::FilesSelect, true),
+    ("idle", Permission::Status, false),
+];
+
 #[test]
-fn groups(rt: HostRuntime) -> Result<(), Fail> {
-    let policy = policy_of(rt.alloc(), GROUPS)?;
-    let rows = [
-        ("printers", Permission::Print, true),
-        ("printers", Permission::Control, false),
-        ("selectors", Permission::FilesSelect, true),
-        ("idle", Permission::Status, false),
-    ];
-    assert_allowed(&rt, &policy, rows.as_slice())
+fn groups(rt: HostRuntime) {
+    let policy = policy_of(&rt, GROUPS);
+    for (group, permission, wanted) in &ALLOWED {
+        assert!(rt;
+            is_allowed(&rt, &policy, group, *permission) == *wanted,
+            "{group}"
+        );
+    }
+    drop(policy);
 }
 
 const SCRIPTS: &str =
@@ -205,36 +218,35 @@ const SCRIPTS: &str =
 afterPrinterConnected = ['M115']\nbeforePrinterDisconnected = ['M18']\nafterPrintPaused = ['G91']\n\
 beforePrintResumed = ['G90']\nafterPrintCancelled = ['M104 S0']\n";
 
-fn scripts_of(alloc: Global, scripts: &str) -> Result<Scripts, Fail> {
-    Ok(read(alloc, PRINTER, ADMIN, scripts)??.scripts)
-}
+// Each point with its commands.
+const COMMANDS: [(Point, &[&str]); 7] = [
+    (Point::Started, &["M107"]),
+    (Point::Done, &["M84", "G28"]),
+    (Point::Connected, &["M115"]),
+    (Point::Disconnect, &["M18"]),
+    (Point::Paused, &["G91"]),
+    (Point::Resumed, &["G90"]),
+    (Point::Cancelled, &["M104 S0"]),
+];
 
 // Scripts are the commands of their lines; each is at its point.
 #[test]
-fn scripts(rt: HostRuntime) -> Result<(), Fail> {
-    let scripts = scripts_of(rt.alloc(), SCRIPTS)?;
-    let rows: [(Point, &[&str]); 7] = [
-        (Point::Started, &["M107"]),
-        (Point::Done, &["M84", "G28"]),
-        (Point::Connected, &["M115"]),
-        (Point::Disconnect, &["M18"]),
-        (Point::Paused, &["G91"]),
-        (Point::Resumed, &["G90"]),
-        (Point::Cancelled, &["M104 S0"]),
-    ];
-    for (point, wanted) in rows {
-        has(&rt, &scripts, point, wanted);
+fn scripts(rt: HostRuntime) {
+    let settings = settings_of(&rt, PRINTER, ADMIN, SCRIPTS);
+    for (point, wanted) in &COMMANDS {
+        has(&rt, &settings.scripts, *point, wanted);
     }
-    Ok(())
+    drop(settings);
 }
+
+const TEXT: &[u8] = b"[printer]\nports = ['p']\n[admin]\nname = 'root'\n\
+key_sha256 = '470dc872b1b47dac8456c9f0800583d1176d1a2f194b626000379d1d7d7fc920'\n\
+[groups]\nprinters = ['PRINT']\n[scripts]\nbeforePrintStarted = ['M107']\n";
 
 // Each call that allocates; allocation succeeds.
 #[test]
-fn ample(rt: HostRuntime) -> Result<(), Fail> {
-    let text = b"[printer]\nports = ['p']\n[admin]\nname = 'root'\n\
-key_sha256 = '470dc872b1b47dac8456c9f0800583d1176d1a2f194b626000379d1d7d7fc920'\n\
-[groups]\nprinters = ['PRINT']\n[scripts]\nbeforePrintStarted = ['M107']\n";
-    let settings = read_settings(rt.alloc(), text)?;
+fn ample(rt: HostRuntime) {
+    let settings = read_bytes(rt.alloc(), TEXT).expect(&rt, "refused");
     assert_eq!(rt; settings.scripts.count(Point::Started), 1);
-    Ok(())
+    drop(settings);
 }

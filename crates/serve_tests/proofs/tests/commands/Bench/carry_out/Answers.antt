@@ -6,8 +6,8 @@ octo-requires-clause-suits g c κs lives past is asked named s made = suits_any 
 
 pub octo-requires-clause-links_suit : goal.octo-requires-clause-links_suit
 octo-requires-clause-links_suit g c κs lives asked named s made =
-    let p = c.floor_links.ensures.plain in
-    let n = c.floor_links.ensures.numbered in
+    let p = c.requires.floor_plain in
+    let n = c.requires.floor_numbered in
     record {
       a = λ past is. suits_any s.settings.numbered_oks _ p.a n.a;
       b = λ past is. suits_any s.settings.numbered_oks _ p.b n.b;
