@@ -3,6 +3,7 @@
 import os
 import socket
 import statistics
+import struct
 import subprocess
 import sys
 import threading
@@ -31,13 +32,31 @@ class Load:
         return "%6.0f a second, p50 %.2f ms, p99 %.2f ms, %d wrong" % (self.rate, self.half, self.most, self.wrong)
 
 
+# The kernel's stamps of when bytes came, in seconds and nanoseconds: Linux, SO_TIMESTAMPNS of socket(7).
+STAMPS = 35
+
+
+def received(conn):
+    """The bytes that have come, and when the last of them did, by the kernel: not when this process was woken for them."""
+    part, found, _, _ = conn.recvmsg(65536, socket.CMSG_SPACE(16))
+    for level, kind, data in found:
+        if (level, kind) == (socket.SOL_SOCKET, STAMPS):
+            seconds, nanoseconds = struct.unpack("qq", data)
+            return part, seconds + nanoseconds / 1e9
+    return part, time.time()
+
+
 class Peer:
-    """A printer that says `ok` to the hello, and then to each line: never, or at the pace of the line."""
+    """A printer that says `ok` to the hello, and then to each line: never, or at the pace of the line.
+
+    It keeps the line's time by itself, since a real one shares no processor with the host: a line takes its time from when it came, or from
+    when the last one was through. An `ok` that leaves late, since this process is woken late, counts against the host all the same.
+    """
 
     def __init__(self, answers):
         self.answers = answers
         self.lines = 0
-        # When each line had come.
+        # When each line was through.
         self.moments = []
         self.listener = socket.create_server(("127.0.0.1", 0))
         self.port = self.listener.getsockname()[1]
@@ -45,23 +64,22 @@ class Peer:
 
     def serve(self):
         conn, _ = self.listener.accept()
+        conn.setsockopt(socket.SOL_SOCKET, STAMPS, 1)
         conn.sendall(b"start\n")
-        held, due = b"", time.monotonic()
+        held, through = b"", time.time()
         while True:
-            part = conn.recv(65536)
+            part, came = received(conn)
             if not part:
                 return
             held += part
             while b"\n" in held:
                 line, held = held.split(b"\n", 1)
+                through = max(through, came) + (len(line) + 1) / BYTES_A_SECOND
                 if self.lines == 0 or self.answers:
-                    due = max(due, time.monotonic()) + (len(line) + 1) / BYTES_A_SECOND
-                    pause = due - time.monotonic()
-                    if pause > 0:
-                        time.sleep(pause)
+                    time.sleep(max(0, through - time.time()))
                     conn.sendall(b"ok\n")
                 self.lines += 1
-                self.moments.append(time.monotonic())
+                self.moments.append(through)
 
 
 class Plain:
@@ -91,8 +109,21 @@ def processor(pid):
     return (int(words[11]) + int(words[12])) / os.sysconf("SC_CLK_TCK")
 
 
+def ticks():
+    """The processors' time so far, and how much of it the machine's own host gave to others, where this machine is a virtual one."""
+    words = [int(it) for it in open("/proc/stat").readline().split()[1:9]]
+    return sum(words), words[7]
+
+
+SEEN = [ticks()]
+
+
 def load():
-    return open("/proc/loadavg").read().split()[0]
+    """The load, and the share of the processors that was stolen since it was last asked for."""
+    (all_before, stolen_before), (all_now, stolen) = SEEN[-1], ticks()
+    SEEN.append((all_now, stolen))
+    share = 100 * (stolen - stolen_before) / max(1, all_now - all_before)
+    return "%s, %.0f %% stolen" % (open("/proc/loadavg").read().split()[0], share)
 
 
 def median(loads, what):
