@@ -26,6 +26,8 @@ LONG = 4096
 MOST_BODY = 68_157_440
 # The most resident memory that strangers' uploads may lead to, in bytes.
 MOST_PEAK = 32 << 20
+# The most refusals a second of a stranger who uploads again as soon as it is refused: a worker rests for what it drops.
+MOST_REFUSALS = 250
 # The errors of a call of accept that pass.
 PASSING = """EMFILE ENFILE ENOBUFS ENOMEM ECONNABORTED EPERM EPROTO ENOPROTOOPT EOPNOTSUPP ENETDOWN ENETUNREACH EHOSTDOWN EHOSTUNREACH
 ENONET""".split()
@@ -294,6 +296,15 @@ def stranger(port, size):
             return b""
 
 
+def refusals(port):
+    """How often a stranger who uploads again as soon as it is refused is refused within 2 seconds."""
+    count, end = 0, time.monotonic() + 2
+    while time.monotonic() < end:
+        stranger(port, 64 << 20)
+        count += 1
+    return count
+
+
 def strangers(folder):
     """Eight uploads of 64 MiB at once by keys that name nobody are refused before the body, and take no memory."""
     host = Host(folder, 1)
@@ -310,8 +321,10 @@ def strangers(folder):
         waits = head(b"POST /api/files/local HTTP/1.1", b"Expect: 100-continue", b"Content-Length: %d" % (64 << 20), key="")
         check("without 100 Continue", send(host.port, waits) == 403)
         check("their bodies aren't kept", peak(host) < MOST_PEAK, peak(host))
+        count = refusals(host.port)
+        check("one that tries again at once is refused at most %d times a second" % MOST_REFUSALS, count <= 2 * MOST_REFUSALS, count)
         status, text = host.shut_down()
-        check("each was one call", (status, text) == (0, b"served 10 calls\n"), (status, text))
+        check("each was one call", (status, text) == (0, b"served %d calls\n" % (10 + count)), (status, text))
     finally:
         host.kill()
 

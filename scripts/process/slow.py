@@ -1,6 +1,7 @@
 """Checks of `octo serve` beside peers that send or read slowly; see slow.sh."""
 
 import os
+import re
 import socket
 import sys
 import tempfile
@@ -14,6 +15,10 @@ SILENT, BYTES = 60, 0.05
 # How long an answer may take, in seconds, how many of a hundred may take longer on a busy machine, and how long these may.
 SOON, LATER, LATEST = 0.05, 5, 5
 LARGE = b"G1 X100 Y100 E1\n" * (1 << 20)
+# How many callers read their reply and don't close, and within how many seconds all are answered: a worker waits for none of them.
+STAYING, ALL_SOON = 100, 0.8
+# How often the threads of an idle host wake in a second, at most: the house's a hundred times, and the workers' by turns.
+MOST_WAKES = 250
 failed = False
 
 
@@ -88,15 +93,44 @@ class Slow:
             conn.close()
 
 
+def wakes(host):
+    """How often the threads of a host have waited for something so far."""
+    tasks = "/proc/%d/task" % host.process.pid
+    texts = [open(os.path.join(tasks, it, "status")).read() for it in os.listdir(tasks)]
+    return sum(int(re.search(r"\nvoluntary_ctxt_switches:\s+(\d+)", it)[1]) for it in texts)
+
+
+def wakes_idle(host):
+    """The same a second, while nobody asks."""
+    time.sleep(0.5)
+    before, began = wakes(host), time.monotonic()
+    time.sleep(2)
+    return (wakes(host) - before) / (time.monotonic() - began)
+
+
 def times(host, count):
-    """How long each of some requests took, all of which were answered."""
+    """How long each of some requests took, in order, all of which were answered."""
     found = []
     for _ in range(count):
         began = time.monotonic()
         check_status = host.ask("GET", "/api/connection").status
         found.append(time.monotonic() - began if check_status == 200 else 99)
         time.sleep(0.01)
-    return sorted(found)
+    return found
+
+
+def staying(host):
+    """How long it takes until all of some callers, one after the other, have the end of their reply. None of them closes."""
+    began, held = time.monotonic(), []
+    for _ in range(STAYING):
+        held.append(connect(host))
+        held[-1].sendall(message("GET", "/api/version", host.key))
+        while held[-1].recv(1 << 16):
+            pass
+    took = time.monotonic() - began
+    for conn in held:
+        conn.close()
+    return took
 
 
 def files(host):
@@ -114,15 +148,19 @@ def slow_peers(folder):
     files(host)
     host.start()
     try:
-        alone = times(host, 100)
+        idle = wakes_idle(host)
+        check("an idle host wakes at most %d times a second" % MOST_WAKES, idle <= MOST_WAKES, idle)
+        alone = sorted(times(host, 100))
         slow = Slow(host)
         try:
-            beside = times(host, 400)
+            found = times(host, 400)
         finally:
             slow.end()
-        late = sum(it > SOON for it in beside)
-        print("an answer alone: %.1f ms, at most %.1f ms; beside slow peers %.1f ms, 99 of 100 within %.1f ms, at most %.1f ms, %d of 400 above 50 ms" % (
-            alone[50] * 1e3, alone[-1] * 1e3, beside[200] * 1e3, beside[396] * 1e3, beside[-1] * 1e3, late))
+        beside, late = sorted(found), sum(it > SOON for it in found)
+        print("an answer alone: %.1f ms, at most %.1f ms; beside slow peers %.1f ms, 99 of 100 within %.1f ms, at most %.1f ms, the first in %.1f ms, "
+              "%d of 400 above 50 ms" % (alone[50] * 1e3, alone[-1] * 1e3, beside[200] * 1e3, beside[396] * 1e3, beside[-1] * 1e3, found[0] * 1e3, late))
+        took = min(staying(host) for _ in range(3))
+        check("%d callers that don't close are answered within %.1f s" % (STAYING, ALL_SOON), took < ALL_SOON, took)
         check("a caller beside 60 silent peers, 16 drips and 8 slow readers", late <= 4 * LATER and beside[-1] < LATEST, (late, beside[-1]))
         # One that reads slowly, but not too slowly, has all of it.
         conn = connect(host)
