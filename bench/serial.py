@@ -8,15 +8,15 @@ those that scripts/build leaves.
 """
 
 import os
-import socket
 import statistics
 import subprocess
 import sys
 import tempfile
 import time
 
-OCTO = "crates/octo/out/octo"
-SIM = "crates/marlin_sim/out/marlin_sim"
+sys.path.insert(0, "scripts/lib")
+from serving import OCTO, SIM, free_port, listens, write_moves  # noqa: E402
+
 RUNS = int(sys.argv[1]) if len(sys.argv) > 1 else 5
 CORE = {0}
 LINES = 100000
@@ -30,25 +30,6 @@ window = %d
 name = "root"
 key_sha256 = "470dc872b1b47dac8456c9f0800583d1176d1a2f194b626000379d1d7d7fc920"
 """
-
-
-def write_moves(path):
-    with open(path, "w") as file:
-        for n in range(LINES):
-            file.write("G1 X%d.%03d Y%d.%03d E0.%05d\n" % (n % 200, n % 1000, n % 180, n % 997, n % 99991))
-
-
-def free_port():
-    with socket.socket() as listener:
-        listener.bind(("127.0.0.1", 0))
-        return listener.getsockname()[1]
-
-
-def listening(port):
-    # The state of a listening socket in /proc/net/tcp is 0A.
-    want = "0100007F:%04X" % port
-    with open("/proc/net/tcp") as table:
-        return any(row.split()[1] == want and row.split()[3] == "0A" for row in table.readlines()[1:])
 
 
 def measure(address, ready, port, arguments):
@@ -71,7 +52,7 @@ def measure(address, ready, port, arguments):
 def over_tcp(folder, arguments):
     port = free_port()
     address = "127.0.0.1:%d" % port
-    return measure(address, lambda: listening(port), address, arguments)
+    return measure(address, lambda: listens(port), address, arguments)
 
 
 def over_device(folder, arguments):
@@ -105,7 +86,7 @@ def main():
     print("load %.1f %.1f %.1f" % os.getloadavg())
     with tempfile.TemporaryDirectory() as folder:
         path = os.path.join(folder, "moves.gcode")
-        write_moves(path)
+        write_moves(path, lines=LINES)
         for window in (1, 3):
             compare(folder, path, window)
     print("load %.1f %.1f %.1f" % os.getloadavg())

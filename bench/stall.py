@@ -93,7 +93,7 @@ def upload(number):
     return "upload-%d.gcode" % number
 
 
-# The peers of scripts/process/slow.sh. Words: the port, the key.
+# The peers of scripts/process/slow.py. Words: the port, the key.
 SLOW = """
 import sys, types
 sys.path.insert(0, "scripts/process")

@@ -1,7 +1,7 @@
 #!/bin/sh
 # Measures what other callers take from a print, and from a caller with a key: the lines a second of a print at the pace of 250,000 baud and
 # its longest gap, alone and beside readers of a large file's data and of a list of 1,000 files, downloads, uploads with and without a key, and the
-# slow peers of scripts/process/slow.sh; the time of an answer beside connections that are silent or have sent a part of a head, and beside the
+# slow peers of scripts/process/slow.py; the time of an answer beside connections that are silent or have sent a part of a head, and beside the
 # slow peers; and how long a host takes to begin, with a full queue and at all its limits. The program is the one that `scripts/build octo` leaves.
 # Usage: bench/stall.sh [ROUNDS [queue]], 3 rounds if none are given; with `queue` without the last of these
 set -eu

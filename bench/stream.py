@@ -14,8 +14,9 @@ import sys
 import tempfile
 import time
 
-OCTO = "crates/octo/out/octo"
-SIM = "crates/marlin_sim/out/marlin_sim"
+sys.path.insert(0, "scripts/lib")
+from serving import OCTO, SIM, free_port, listens, write_moves  # noqa: E402
+
 RUNS = int(sys.argv[1]) if len(sys.argv) > 1 else 5
 CORE = {0}
 IDLE_SECONDS = 10
@@ -31,33 +32,11 @@ key_sha256 = "470dc872b1b47dac8456c9f0800583d1176d1a2f194b626000379d1d7d7fc920"
 """
 
 
-def write_moves(path, size):
-    count = 0
-    with open(path, "w") as file:
-        while file.tell() < size:
-            file.write("G1 X%d.%03d Y%d.%03d E0.%05d\n" % (count % 200, count % 1000, count % 180, count % 997, count % 99991))
-            count += 1
-    return count
-
-
 def write_settings(folder, window):
     path = os.path.join(folder, "window_%d.toml" % window)
     with open(path, "w") as file:
         file.write(SETTINGS % window)
     return path
-
-
-def free_port():
-    with socket.socket() as listener:
-        listener.bind(("127.0.0.1", 0))
-        return listener.getsockname()[1]
-
-
-def listening(port):
-    # The state of a listening socket in /proc/net/tcp is 0A.
-    want = "0100007F:%04X" % port
-    with open("/proc/net/tcp") as table:
-        return any(row.split()[1] == want and row.split()[3] == "0A" for row in table.readlines()[1:])
 
 
 def peak(pid):
@@ -67,7 +46,7 @@ def peak(pid):
 
 def measure(host, port, lines):
     sim = subprocess.Popen([SIM, "127.0.0.1:%d" % port, "0", "4", "-", "-"], stdout=subprocess.DEVNULL)
-    while not listening(port):
+    while not listens(port):
         time.sleep(0.01)
     began = time.monotonic()
     run = subprocess.Popen(host(port), stdout=subprocess.PIPE)
@@ -142,7 +121,7 @@ def main():
         subprocess.run(["cc", "-O2", "-o", plain, "bench/plain_host.c"], check=True)
         path = os.path.join(folder, "moves.gcode")
         for megabytes in (1, 5):
-            lines = write_moves(path, megabytes * 1_000_000)
+            lines = write_moves(path, size=megabytes * 1_000_000)
             for window in (1, 4):
                 compare(folder, plain, path, megabytes, lines, window)
         measure_idle(path)

@@ -1,6 +1,7 @@
 """A served host and its printer as processes, and requests to it: shared by the checks and the measurements of `octo serve`."""
 
 import hashlib
+import itertools
 import json
 import os
 import secrets
@@ -15,10 +16,33 @@ SIM = "crates/marlin_sim/out/marlin_sim"
 LIMIT = 60
 
 
+# The ports of free_port are below those that the system gives to outgoing connections, so that one that is free stays free. scripts/test
+# gives each of the checks that it runs side by side a part of them: CHECK_PORTS is "the first one and how many".
+FIRST_PORT, PORTS = map(int, os.environ.get("CHECK_PORTS", "20000 12000").split())
+calls = itertools.count()
+
+
 def free_port():
-    with socket.socket() as listener:
-        listener.bind(("127.0.0.1", 0))
-        return listener.getsockname()[1]
+    """A port of the loopback address that is free now, and another one at each call."""
+    while True:
+        # The scripts in sh call this from one process after the other.
+        port = FIRST_PORT + (os.getpid() * 8 + next(calls)) % PORTS
+        with socket.socket() as listener:
+            try:
+                listener.bind(("127.0.0.1", port))
+                return port
+            except OSError:
+                continue
+
+
+def write_moves(path, lines=0, size=0):
+    """A file of moves, of this number of lines, or of as many as it takes to this size; how many they are."""
+    count = 0
+    with open(path, "w") as file:
+        while count < lines or file.tell() < size:
+            file.write("G1 X%d.%03d Y%d.%03d E0.%05d\n" % (count % 200, count % 1000, count % 180, count % 997, count % 99991))
+            count += 1
+    return count
 
 
 def until(what, test, seconds=LIMIT, pause=0.02):

@@ -1,4 +1,6 @@
-"""Hostile peers of `octo serve`; see attacks.sh."""
+"""`octo serve` against hostile peers on this machine: a thousand hostile messages, half-closed and reset connections, 10,000
+connections one after the other and 2,000 at the same time, 8 uploads by strangers. Each gets its refusal, and leaves descriptors, memory
+and the count of calls as they were. It takes 60 seconds at most."""
 
 import os
 import re
@@ -11,8 +13,11 @@ import sys
 import threading
 import time
 
-sys.path.insert(0, "scripts/lib")
+sys.path.insert(0, __file__.rsplit("/", 2)[0] + "/lib")
+from checking import build, check_that, end  # noqa: E402
 from serving import Host, Printer, exchange, form, message, until, with_folder  # noqa: E402
+
+build("octo", "marlin_sim")
 
 # The longest head, and the most fields in one.
 MOST_HEAD, MOST_FIELDS = 16384, 64
@@ -32,13 +37,6 @@ MOST_REFUSALS = 250
 PASSING = """EMFILE ENFILE ENOBUFS ENOMEM ECONNABORTED EPERM EPROTO ENOPROTOOPT EOPNOTSUPP ENETDOWN ENETUNREACH EHOSTDOWN EHOSTUNREACH
 ENONET""".split()
 REFUSED = {400, 404, 405, 408, 411, 413, 415, 431}
-failed = False
-
-
-def check(name, good, found=""):
-    global failed
-    print("%s: %s%s" % ("ok" if good else "failed", name, "" if good else ": %r" % (found,)), flush=True)
-    failed = failed or not good
 
 
 def head(start, *fields, body=b"", key="k"):
@@ -186,8 +184,8 @@ def hostile(host):
     for name, sent in groups.items():
         bad = [(data[-120:], found) for data in sent for found in [send(host.port, data)] if found not in REFUSED | {0}]
         count += len(sent)
-        check("%d messages of the kind %s are refused" % (len(sent), name), not bad, bad[:3])
-    check("there were a thousand", count >= 1000, count)
+        check_that("%d messages of the kind %s are refused" % (len(sent), name), not bad, bad[:3])
+    check_that("there were a thousand", count >= 1000, count)
     return len(groups["lines"]) + sum(is_long(data) for sent in groups.values() for data in sent)
 
 
@@ -212,9 +210,9 @@ def named(host):
     ]
     for name, data, wanted in rows:
         found = send(host.port, data)
-        check("%s: status %d" % (name, wanted), found == wanted, found)
-    check("it is stored as _.gcode", os.listdir(host.files) == ["_.gcode"], os.listdir(host.files))
-    check("and deleted", host.ask("DELETE", "/api/files/local/_.gcode").status == 204)
+        check_that("%s: status %d" % (name, wanted), found == wanted, found)
+    check_that("it is stored as _.gcode", os.listdir(host.files) == ["_.gcode"], os.listdir(host.files))
+    check_that("and deleted", host.ask("DELETE", "/api/files/local/_.gcode").status == 204)
     return 1 + sum(is_long(data) for _, data, _ in rows)
 
 
@@ -248,10 +246,10 @@ def keys(folder):
         replies += [host.ask("PUT", "/api/access/users/ana", b'{"key":"%s"}' % wrong.encode(), "application/json")]
         found = [key.encode() for key in shown[:3]]
         status, text = host.shut_down()
-        check("a host that knew three keys ends as asked", status == 0, (status, text))
+        check_that("a host that knew three keys ends as asked", status == 0, (status, text))
         told = [reply.head + reply.body for reply in replies if any(key in reply.head + reply.body for key in found)]
-        check("no key is in any of %d replies" % len(replies), not told, told[:2])
-        check("no key is in an output or a file", not holders(folder, found), holders(folder, found))
+        check_that("no key is in any of %d replies" % len(replies), not told, told[:2])
+        check_that("no key is in an output or a file", not holders(folder, found), holders(folder, found))
         printer.end()
     finally:
         host.kill()
@@ -317,22 +315,22 @@ def strangers(folder):
             it.start()
         for it in threads:
             it.join()
-        check("8 uploads of strangers are refused", all(it.startswith(b"HTTP/1.1 403 ") for it in replies), replies)
+        check_that("8 uploads of strangers are refused", all(it.startswith(b"HTTP/1.1 403 ") for it in replies), replies)
         waits = head(b"POST /api/files/local HTTP/1.1", b"Expect: 100-continue", b"Content-Length: %d" % (64 << 20), key="")
-        check("without 100 Continue", send(host.port, waits) == 403)
-        check("their bodies aren't kept", peak(host) < MOST_PEAK, peak(host))
+        check_that("without 100 Continue", send(host.port, waits) == 403)
+        check_that("their bodies aren't kept", peak(host) < MOST_PEAK, peak(host))
         count = refusals(host.port)
-        check("one that tries again at once is refused at most %d times a second" % MOST_REFUSALS, count <= 2 * MOST_REFUSALS, count)
+        check_that("one that tries again at once is refused at most %d times a second" % MOST_REFUSALS, count <= 2 * MOST_REFUSALS, count)
         status, text = host.shut_down()
-        check("each was one call", (status, text) == (0, b"served %d calls\n" % (10 + count)), (status, text))
+        check_that("each was one call", (status, text) == (0, b"served %d calls\n" % (10 + count)), (status, text))
     finally:
         host.kill()
 
 
 def check_as_before(host, descriptors, before):
     settled = until("no descriptor is left", lambda: host.descriptors() <= descriptors, 10)
-    check("no descriptor is left", settled)
-    check("memory as before", memory(host) - before < MOST_GROWTH, memory(host) - before)
+    check_that("no descriptor is left", settled)
+    check_that("memory as before", memory(host) - before < MOST_GROWTH, memory(host) - before)
 
 
 def check_log(host):
@@ -340,7 +338,7 @@ def check_log(host):
     lines = open(host.errors, "rb").read().split(b"\n")
     known = (b"serving at ", b"printer: ", b"refused: ", b"file _.gcode: ", b"stopped")
     odd = [line for line in lines if line and not (re.fullmatch(rb"[ -~]*", line) and line.startswith(known))]
-    check("the log has its own lines alone", not odd, odd[:3])
+    check_that("the log has its own lines alone", not odd, odd[:3])
 
 
 def messages(folder):
@@ -355,11 +353,11 @@ def messages(folder):
         descriptors, before = host.descriptors(), memory(host)
         asked = hostile(host) + named(host)
         check_as_before(host, descriptors, before)
-        check("nothing was stored", host.ask("GET", "/api/files").body == rows and os.listdir(host.files) == [], os.listdir(host.files))
+        check_that("nothing was stored", host.ask("GET", "/api/files").body == rows and os.listdir(host.files) == [], os.listdir(host.files))
         status, text = host.shut_down()
-        check("the host ends as asked", status == 0, (status, text))
-        check("no other message was a call", text == b"served %d calls\n" % (host.calls + asked), (text, host.calls, asked))
-        check("nothing reached the printer", (found := printer.end()) == [], found)
+        check_that("the host ends as asked", status == 0, (status, text))
+        check_that("no other message was a call", text == b"served %d calls\n" % (host.calls + asked), (text, host.calls, asked))
+        check_that("nothing reached the printer", (found := printer.end()) == [], found)
         check_log(host)
     finally:
         host.kill()
@@ -382,7 +380,7 @@ def reset(host):
         conn.setsockopt(socket.SOL_SOCKET, socket.SO_LINGER, struct.pack("ii", 1, 0))
         conn.sendall(data)
         conn.close()
-    check("200 reset connections", answers(host))
+    check_that("200 reset connections", answers(host))
 
 
 def half_closed(host):
@@ -394,12 +392,12 @@ def half_closed(host):
         held[-1].sendall(data)
         held[-1].shutdown(socket.SHUT_WR)
     ends = {conn.recv(100) for conn in held}
-    check("90 half-closed connections have ended", ends == {b""}, ends)
+    check_that("90 half-closed connections have ended", ends == {b""}, ends)
     for _ in range(30):
         held.append(connect(host))
         held[-1].shutdown(socket.SHUT_RD)
         held[-1].sendall(whole)
-    check("30 more that take no reply", answers(host))
+    check_that("30 more that take no reply", answers(host))
     for conn in held:
         conn.close()
 
@@ -408,13 +406,13 @@ def many(host):
     """10,000 connections one after the other, and 2,000 at the same time, of which the door keeps few."""
     for _ in range(10000):
         connect(host).close()
-    check("10,000 connections, one after the other", answers(host))
+    check_that("10,000 connections, one after the other", answers(host))
     # The process has a few more descriptors than these.
     most = resource.getrlimit(resource.RLIMIT_NOFILE)[0]
     held = [connect(host) for _ in range(min(2000, most - 50))]
-    check("%d connections at the same time" % len(held), answers(host))
+    check_that("%d connections at the same time" % len(held), answers(host))
     kept = host.descriptors()
-    check("most of them were closed", kept < 200, kept)
+    check_that("most of them were closed", kept < 200, kept)
     for conn in held:
         conn.close()
 
@@ -432,7 +430,7 @@ def connections(folder):
             attack(host)
             check_as_before(host, descriptors, before)
         status, text = host.shut_down()
-        check("the host ends as asked", status == 0, (status, text))
+        check_that("the host ends as asked", status == 0, (status, text))
     finally:
         host.kill()
 
@@ -463,9 +461,9 @@ def accepts(folder):
     try:
         for error in PASSING:
             found = failing(host, error), threads(host)
-            check("four workers and a reply after " + error, found == (200, 5), found)
+            check_that("four workers and a reply after " + error, found == (200, 5), found)
         status, text = host.shut_down()
-        check("the host ends as asked", status == 0, (status, text))
+        check_that("the host ends as asked", status == 0, (status, text))
     finally:
         host.kill()
 
@@ -477,5 +475,5 @@ with_folder(accepts)
 with_folder(strangers)
 with_folder(keys)
 took = time.monotonic() - began
-check("all of it within %d seconds" % MOST_SECONDS, took < MOST_SECONDS, took)
-sys.exit(failed)
+check_that("all of it within %d seconds" % MOST_SECONDS, took < MOST_SECONDS, took)
+end()

@@ -1,4 +1,5 @@
-"""Backups of the database of a running host; see backup.sh."""
+"""A backup of the database of a running host: a host over the copy has every change that was answered before. A host that is killed at any
+call of a backup leaves its database as it was, and a copy that is whole, or none."""
 
 import os
 import shutil
@@ -8,8 +9,11 @@ import tempfile
 import threading
 import time
 
-sys.path.insert(0, "scripts/lib")
+sys.path.insert(0, __file__.rsplit("/", 2)[0] + "/lib")
+from checking import build, check, end  # noqa: E402
 from serving import LIMIT, Host, exchange, free_port, message, until  # noqa: E402
+
+build("octo", "keeper_tool")
 
 TOOL = "crates/keeper_tool/out/keeper_tool"
 PATH = "/api/system/commands/core/backup"
@@ -19,16 +23,6 @@ CALLS = ("openat", "write", "pwrite64", "ftruncate", "fsync", "fdatasync", "?ren
 MOST = 12
 # How many records are added before a host is killed by time, so that its backup takes a while.
 PRINTS = 5000
-failed = False
-
-
-def check(name, found, wanted):
-    global failed
-    if found == wanted:
-        print("ok: " + name, flush=True)
-    else:
-        print("failed: %s: %r, wanted %r" % (name, found, wanted), flush=True)
-        failed = True
 
 
 def add_user(host, number):
@@ -267,4 +261,4 @@ def main():
 
 if __name__ == "__main__":
     main()
-    sys.exit(1 if failed else 0)
+    end()

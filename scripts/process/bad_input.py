@@ -1,4 +1,4 @@
-"""Bad files, names and peers for `octo print`: its text and status, with its memory bounded by the system."""
+"""Bad files, names and peers: octo's text and status, and its memory."""
 
 import os
 import random
@@ -8,6 +8,11 @@ import subprocess
 import sys
 import tempfile
 import threading
+
+sys.path.insert(0, __file__.rsplit("/", 2)[0] + "/lib")
+from checking import build  # noqa: E402
+
+build("octo")
 
 OCTO = "crates/octo/out/octo"
 # The least that the program needs is a few MiB; none of these cases may make it keep what a peer sends.

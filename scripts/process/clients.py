@@ -1,4 +1,6 @@
-"""What other programs send to `octo serve`, over whole processes; see clients.sh."""
+"""What other programs send to `octo serve`, over real sockets: the recorded messages of scripts/process/messages, and the requests of
+Cura's plugin, Home Assistant's client and octorest, each with what its program reads of the reply; moves by hand, as the printer
+executes them; and pages of other origins."""
 
 import glob
 import os
@@ -6,22 +8,15 @@ import subprocess
 import sys
 import tempfile
 
-sys.path.insert(0, "scripts/lib")
+sys.path.insert(0, __file__.rsplit("/", 2)[0] + "/lib")
+from checking import build, check, end  # noqa: E402
 from serving import Host, Printer, exchange, form  # noqa: E402
+
+build("octo", "marlin_sim")
 
 MESSAGES = "scripts/process/messages"
 # The key in the recorded messages.
 KEY = "rootxkeyx0000000"
-failed = False
-
-
-def check(name, found, wanted):
-    global failed
-    if found == wanted:
-        print("ok: " + name, flush=True)
-    else:
-        print("failed: %s: %r, wanted %r" % (name, found, wanted), flush=True)
-        failed = True
 
 
 def difference(found, wanted):
@@ -351,7 +346,7 @@ def main():
                 work(folder)
             except (OSError, KeyError, ValueError, subprocess.TimeoutExpired, SystemExit) as fault:
                 check("a check without a fault of its own: " + work.__name__, repr(fault), "")
-    sys.exit(1 if failed else 0)
+    end()
 
 
 if __name__ == "__main__":

@@ -1,4 +1,5 @@
-"""Which threads of `octo serve` read the file of a download, as strace shows it; see download.sh."""
+"""The system's calls of a download: the worker that writes the reply has opened and read the file, and no other thread reads it, the house's
+least of all. strace shows the calls."""
 
 import glob
 import os
@@ -6,11 +7,12 @@ import re
 import sys
 import tempfile
 
-sys.path.insert(0, "scripts/lib")
-sys.path.insert(0, "scripts/process")
-import upload  # noqa: E402
+sys.path.insert(0, __file__.rsplit("/", 2)[0] + "/lib")
+from checking import build, check, end  # noqa: E402
 from serving import Host, exchange, message, until  # noqa: E402
-from upload import cannot_trace, check  # noqa: E402
+from upload import cannot_trace  # noqa: E402
+
+build("octo")
 
 CALLS = "open,openat,read,pread64,readv,mmap,sendto,sendmsg,write,writev,poll,ppoll"
 CONTENT = b"G1 X100 Y100 E1\n" * 65536
@@ -65,4 +67,4 @@ def main():
 
 if __name__ == "__main__":
     main()
-    sys.exit(1 if upload.failed else 0)
+    end()

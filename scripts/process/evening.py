@@ -1,4 +1,4 @@
-"""A newcomer's first evening over whole processes; see evening.sh.
+"""A newcomer's first evening: the example's settings, PrusaSlicer's "Upload and print", the printer switched off and on, and once more.
 
 PrusaSlicer's message is one that it sent (scripts/process/messages). Its file has to be executed whole, both before and after the printer
 was switched off and on, and the log has to tell that in 12 lines.
@@ -12,23 +12,16 @@ import sys
 import tempfile
 import threading
 
-sys.path.insert(0, "scripts/lib")
+sys.path.insert(0, __file__.rsplit("/", 2)[0] + "/lib")
+from checking import build, check, end  # noqa: E402
 from serving import OCTO, Printer, exchange, free_port, listens, message, until  # noqa: E402
+
+build("octo", "marlin_sim")
 
 MESSAGE = "scripts/process/messages/prusaslicer_upload_print.http"
 EXAMPLE = "examples/octo.toml"
 KEY = "rootxkeyx0000000"
 MOST_LINES = 12
-failed = False
-
-
-def check(name, found, wanted):
-    global failed
-    if found == wanted:
-        print("ok: " + name, flush=True)
-    else:
-        print("failed: %s: %r, wanted %r" % (name, found, wanted), flush=True)
-        failed = True
 
 
 def commands(content):
@@ -167,4 +160,4 @@ def tell(story, port, printer_port, count):
 if __name__ == "__main__":
     with tempfile.TemporaryDirectory() as work:
         evening(work)
-    sys.exit(failed)
+    end()

@@ -1,5 +1,5 @@
-"""Messages to a new host and the bytes of its replies, as a program wrote them that was made from a description of the API; see
-exchanges.sh."""
+"""Messages to a new host over real sockets, and the bytes of its replies. scripts/process/exchanges.txt has both as a program wrote them
+that was made from a description of the API alone; `NEWER` lists the replies that newer rules change."""
 
 import ast
 import json
@@ -8,8 +8,11 @@ import socket
 import sys
 import tempfile
 
-sys.path.insert(0, "scripts/lib")
+sys.path.insert(0, __file__.rsplit("/", 2)[0] + "/lib")
+from checking import build  # noqa: E402
 from serving import LIMIT, Host  # noqa: E402
+
+build("octo")
 
 CASES = "scripts/process/exchanges.txt"
 SETTINGS = "scripts/process/exchanges.toml"

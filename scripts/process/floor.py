@@ -1,12 +1,17 @@
-"""A floor of printers over whole processes; see floor.sh."""
+"""`octo floor` over modelled printers in processes of their own: the rows of docs/ROWS.md and their statuses, a printer that is killed in its
+print, a floor that is killed, a second program at the same database, a database that can't be written, and scripts/floor_demo."""
 
 import resource
+import subprocess
 import sys
 import tempfile
 
-sys.path.insert(0, "scripts/lib")
+sys.path.insert(0, __file__.rsplit("/", 2)[0] + "/lib")
+from checking import build, check, end  # noqa: E402
 from floors import Relay, Shop, Silent, Story, commands, is_executed  # noqa: E402
 from serving import Printer  # noqa: E402
+
+build("octo", "marlin_sim", "keeper_tool")
 
 # Files of four and of sixty commands.
 PART = b"G28\nG1 X10\nG1 X11\nG1 X12\n"
@@ -16,16 +21,6 @@ ENTRIES = [("job-1", "a.gcode", 5, 2, "PLA"), ("job-2", "b.gcode", 9, 1, "PETG")
 MATERIALS = ["PLA", "PETG"]
 OVER = "floor: 3 prints, 3 done, 0 failed, 0 left\n"
 NONE = "floor: 0 prints, 0 done, 0 failed, 3 left\n"
-failed = False
-
-
-def check(name, found, wanted):
-    global failed
-    if found == wanted:
-        print("ok: " + name, flush=True)
-    else:
-        print("failed: %s: %r, wanted %r" % (name, found, wanted), flush=True)
-        failed = True
 
 
 class Bench:
@@ -190,4 +185,6 @@ with_bench(floor_killed, "octo serve", serve, relays=({}, {"cut_at": 30, "rests"
 with_bench(cut_off, relays=({"held": True}, {"held": True}))
 with_bench(hot, files={"a.gcode": PART, "b.gcode": b"M104 S301\n"})
 with_bench(refused)
-sys.exit(failed)
+demo = subprocess.run(["scripts/floor_demo"], stdout=subprocess.DEVNULL)
+check("a floor of four printers with lines lost and corrupted, one of which loses its power", demo.returncode, 0)
+end()

@@ -1,4 +1,4 @@
-"""What the log of a host says of its sessions and prints; see log.sh."""
+"""The log of a host: a print that is paused and resumed, a printer that falls silent, and one that is stopped."""
 
 import os
 import re
@@ -7,21 +7,14 @@ import sys
 import tempfile
 import threading
 
-sys.path.insert(0, "scripts/lib")
+sys.path.insert(0, __file__.rsplit("/", 2)[0] + "/lib")
+from checking import build, check, end  # noqa: E402
 from serving import Host, until  # noqa: E402
+
+build("octo")
 
 # So long that a print isn't over before it is paused, stopped or left.
 FILE = b"G1 X1 F3000\nG1 X2\n" * 50000
-failed = False
-
-
-def check(name, found, wanted):
-    global failed
-    if found == wanted:
-        print("ok: " + name, flush=True)
-    else:
-        print("failed: %s: %r, wanted %r" % (name, found, wanted), flush=True)
-        failed = True
 
 
 class ModelPrinter(threading.Thread):
@@ -97,4 +90,4 @@ def tell(lines, port, printer_port):
 if __name__ == "__main__":
     with tempfile.TemporaryDirectory() as work:
         evening(work)
-    sys.exit(failed)
+    end()

@@ -1,4 +1,4 @@
-"""`octo measure` of the examples against a plain count; the rest at each command of a layer measures what is left."""
+"""`octo measure` of the examples against a plain count, and `octo rest` at each command of a layer."""
 
 import glob
 import os
@@ -7,8 +7,11 @@ import sys
 import tempfile
 from decimal import Decimal
 
-sys.path.insert(0, "scripts/lib")
+sys.path.insert(0, __file__.rsplit("/", 2)[0] + "/lib")
+from checking import build  # noqa: E402
 from plain_measure import commands, measure
+
+build("octo")
 
 OCTO = "crates/octo/out/octo"
 SECONDS = 60

@@ -1,11 +1,15 @@
-"""Reads each recorded message (crates/client_messages/data) by `client_messages`, at once and byte by byte: compares what it prints.
-A message that is cut must be reported as ended."""
+"""The recorded messages of common clients, at once and byte by byte, and cut at each of their places."""
 
 import glob
 import os
 import subprocess
 import sys
 import tempfile
+
+sys.path.insert(0, __file__.rsplit("/", 2)[0] + "/lib")
+from checking import build  # noqa: E402
+
+build("client_messages")
 
 CRATE = os.path.abspath("crates/client_messages")
 PROGRAM = os.path.join(CRATE, "out", "client_messages")

@@ -1,5 +1,5 @@
 """A host that numbers its lines as Printrun's printcore does, over `marlin_sim`; and `octo print` over a printer whose replies are longer
-than the 256 bytes that count; see print.sh."""
+than the 256 bytes that count."""
 
 import os
 import socket
@@ -7,17 +7,12 @@ import subprocess
 import sys
 import threading
 
-sys.path.insert(0, "scripts/lib")
+sys.path.insert(0, __file__.rsplit("/", 2)[0] + "/lib")
+from checking import build, check, end  # noqa: E402
 from serving import LIMIT, OCTO, Printer, with_folder  # noqa: E402
 
-failed = False
+build("octo", "marlin_sim")
 
-
-def check(name, found, wanted):
-    global failed
-    good = found == wanted
-    print("%s: %s%s" % ("ok" if good else "failed", name, "" if good else ": %r, wanted %r" % (found, wanted)), flush=True)
-    failed = failed or not good
 
 
 def numbered(number, text):
@@ -128,4 +123,4 @@ def long_replies(folder):
 
 with_folder(printcore)
 with_folder(long_replies)
-sys.exit(failed)
+end()

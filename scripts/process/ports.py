@@ -1,4 +1,5 @@
-"""What `octo print` asks of the system for a port over TCP; see ports.sh."""
+"""The system's calls of `octo print` over TCP: what is written goes out at once (TCP_NODELAY), and each address of a host is tried until a
+peer accepts. strace shows the calls; a file mounted over /etc/hosts gives a name two addresses."""
 
 import os
 import re
@@ -7,22 +8,15 @@ import subprocess
 import sys
 import tempfile
 
-sys.path.insert(0, "scripts/lib")
+sys.path.insert(0, __file__.rsplit("/", 2)[0] + "/lib")
+from checking import build, check, end  # noqa: E402
 from serving import LIMIT, OCTO, SIM, free_port, listens, until  # noqa: E402
+
+build("octo", "marlin_sim")
 
 FILE = b"G28\nG1 X1\n"
 DONE = b"done: 2 commands, 0 skipped\n"
 HOSTS = "127.0.0.1 localhost\n127.0.0.2 printer.test\n127.0.0.3 printer.test\n"
-failed = False
-
-
-def check(name, found, wanted):
-    global failed
-    if found == wanted:
-        print("ok: " + name, flush=True)
-    else:
-        print("failed: %s: %r, wanted %r" % (name, found, wanted), flush=True)
-        failed = True
 
 
 def works(words):
@@ -82,4 +76,4 @@ def main():
 
 if __name__ == "__main__":
     main()
-    sys.exit(1 if failed else 0)
+    end()

@@ -132,5 +132,4 @@ sim_row "marlin_sim with 17 slots" "127.0.0.1:0 0 17 - -" 2 "marlin_sim: SLOTS h
 $usage"
 sim_row "marlin_sim at an address where it can't listen" "unix:$work/none/printer 0 4 - -" 12 \
     "marlin_sim: it can't listen at the address, or the connection failed"
-python3 -B scripts/process/peers.py || failed=1
 exit "$failed"

@@ -1,4 +1,4 @@
-"""What `octo print` shows of its progress; see progress.sh."""
+"""The progress of `octo print`: on a terminal, by tenths, and not shown."""
 
 import os
 import pty
@@ -7,21 +7,14 @@ import subprocess
 import sys
 import tempfile
 
-sys.path.insert(0, "scripts/lib")
+sys.path.insert(0, __file__.rsplit("/", 2)[0] + "/lib")
+from checking import build, check, end  # noqa: E402
 from serving import LIMIT, OCTO, Printer  # noqa: E402
+
+build("octo", "marlin_sim")
 
 COUNT = 1000
 WORDS = r"(\d+)%, (\d+) of 1000 sent, (\d+) acknowledged, 0 again, \d+ s, \d+ s left"
-failed = False
-
-
-def check(name, found, wanted):
-    global failed
-    if found == wanted:
-        print("ok: " + name, flush=True)
-    else:
-        print("failed: %s: %r, wanted %r" % (name, found, wanted), flush=True)
-        failed = True
 
 
 def words_of(folder, printer, *more):
@@ -81,4 +74,4 @@ def main(folder):
 if __name__ == "__main__":
     with tempfile.TemporaryDirectory() as work:
         main(work)
-    sys.exit(failed)
+    end()

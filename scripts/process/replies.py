@@ -1,4 +1,5 @@
-"""Lost replies over whole processes; see replies.sh.
+"""Lost replies: prints of `octo sure` and of a served host at a printer whose `ok`s have numbers, with lost and corrupted lines too; and
+the ends of a host whose printer has fallen silent.
 
 Lines go to the modelled printer through a relay that counts them, so that the check also says how many lines a command costs.
 """
@@ -11,11 +12,11 @@ import tempfile
 import threading
 import time
 
-sys.path.insert(0, "scripts/lib")
-sys.path.insert(0, "scripts/process")
-import upload  # noqa: E402
+sys.path.insert(0, __file__.rsplit("/", 2)[0] + "/lib")
+from checking import build, check, end  # noqa: E402
 from serving import LIMIT, OCTO, Host, Printer, free_port, until  # noqa: E402
-from upload import check  # noqa: E402
+
+build("octo", "marlin_sim")
 
 # The received lines that the printer loses, those that it receives with another digit, and its replies that are lost.
 DROP, GARBLE, LOST = "5,31,90,171", "9,55,130", "4,5,17,29,41,42,43,77,101,140,188"
@@ -191,4 +192,4 @@ def checks(folder):
 if __name__ == "__main__":
     with tempfile.TemporaryDirectory() as made:
         checks(made)
-    sys.exit(1 if upload.failed else 0)
+    end()

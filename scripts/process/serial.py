@@ -1,4 +1,4 @@
-"""Checks of prints over a serial line as whole processes; see serial.sh."""
+"""Prints over a serial line to marlin_sim's pseudo-terminal, as a board that restarts whenever its device is opened."""
 
 import os
 import pty
@@ -11,10 +11,16 @@ import threading
 import time
 import tty
 
-sys.path.insert(0, "scripts/lib")
+sys.path.insert(0, __file__.rsplit("/", 2)[0] + "/lib")
+from checking import build, check, end  # noqa: E402
 from serving import LIMIT, OCTO, SIM, Host, form, until  # noqa: E402
 
-failed = False
+for program in ("stty", "perl"):
+    if not shutil.which(program):
+        print("skipped: prints over a serial line: %s is missing" % program)
+        sys.exit()
+build("octo", "marlin_sim")
+
 LOSES = "7,60,201"
 GARBLES = "9,61,250"
 
@@ -30,15 +36,6 @@ def file_of(texts):
 FEW = commands(400)
 # Their print takes some seconds.
 MANY = commands(100000)
-
-
-def check(name, found, wanted):
-    global failed
-    if found == wanted:
-        print("ok: " + name, flush=True)
-    else:
-        print("failed: %s: %.300r, wanted %.300r" % (name, found, wanted), flush=True)
-        failed = True
 
 
 def arguments_of(process):
@@ -285,14 +282,14 @@ def served(folder):
         board.end()
 
 
-def main():
-    work = sys.argv[1]
+def main(work):
     for part in (two_prints, pulled_cable, late_replies, second_host, bad_ports, no_permission, waiting_host, served):
         folder = os.path.join(work, part.__name__)
         os.mkdir(folder)
         part(folder)
         shutil.rmtree(folder, ignore_errors=True)
-    return 1 if failed else 0
 
 
-sys.exit(main())
+with tempfile.TemporaryDirectory() as made:
+    main(made)
+end()

@@ -1,4 +1,5 @@
-"""Checks of `octo serve` over whole processes; see serve.sh."""
+"""`octo serve` over real sockets, a folder and a database: a slicer's upload, slow and vanishing peers, many requests, asks while the
+printer is silent, a kill in mid-print, and the tables as the stock sqlite3 reads them."""
 
 import os
 import shutil
@@ -9,10 +10,12 @@ import tempfile
 import threading
 import time
 
-sys.path.insert(0, "scripts/lib")
+sys.path.insert(0, __file__.rsplit("/", 2)[0] + "/lib")
+from checking import build, check, end  # noqa: E402
 from serving import LIMIT, Host, Printer, form, message, until  # noqa: E402
 
-failed = False
+build("octo", "marlin_sim")
+
 LAYER = b"".join(b"G1 X%d Y%d E%d.5 ; move\n" % (n % 200, n * 7 % 200, n) for n in range(200))
 
 
@@ -24,15 +27,6 @@ def commands(content):
         if text:
             texts.append(text.decode())
     return texts
-
-
-def check(name, found, wanted):
-    global failed
-    if found == wanted:
-        print("ok: " + name, flush=True)
-    else:
-        print("failed: %s: %r, wanted %r" % (name, found, wanted), flush=True)
-        failed = True
 
 
 def slicer_upload(folder):
@@ -362,7 +356,7 @@ def main():
                 work(folder)
             except (OSError, KeyError, ValueError, subprocess.TimeoutExpired, SystemExit) as fault:
                 check("a check without a fault of its own", repr(fault), "")
-    sys.exit(1 if failed else 0)
+    end()
 
 
 if __name__ == "__main__":

@@ -1,4 +1,6 @@
-"""Checks of `octo serve` beside peers that send or read slowly; see slow.sh."""
+"""`octo serve` beside slow peers: silent connections, messages that come byte by byte, and callers that hardly read their replies. A
+caller is answered soon, also if others don't close, and who reads slowly gets all of it. With nobody there it seldom wakes. It takes a
+minute at most."""
 
 import os
 import re
@@ -8,8 +10,11 @@ import tempfile
 import threading
 import time
 
-sys.path.insert(0, "scripts/lib")
+sys.path.insert(0, __file__.rsplit("/", 2)[0] + "/lib")
+from checking import build, check_that, end  # noqa: E402
 from serving import Host, message  # noqa: E402
+
+build("octo", "marlin_sim")
 
 SILENT, BYTES = 60, 0.05
 # How long an answer may take, in seconds, how many of a hundred may take longer on a busy machine, and how long these may.
@@ -19,13 +24,6 @@ LARGE = b"G1 X100 Y100 E1\n" * (1 << 20)
 STAYING, ALL_SOON = 100, 0.8
 # How often the threads of an idle host wake in a second, at most: the house's a hundred times, and the workers' by turns.
 MOST_WAKES = 250
-failed = False
-
-
-def check(name, holds, found=""):
-    global failed
-    print("ok: " + name if holds else "failed: %s: %r" % (name, found), flush=True)
-    failed = failed or not holds
 
 
 def connect(host, small=False):
@@ -149,7 +147,7 @@ def slow_peers(folder):
     host.start()
     try:
         idle = wakes_idle(host)
-        check("an idle host wakes at most %d times a second" % MOST_WAKES, idle <= MOST_WAKES, idle)
+        check_that("an idle host wakes at most %d times a second" % MOST_WAKES, idle <= MOST_WAKES, idle)
         alone = sorted(times(host, 100))
         slow = Slow(host)
         try:
@@ -160,8 +158,8 @@ def slow_peers(folder):
         print("an answer alone: %.1f ms, at most %.1f ms; beside slow peers %.1f ms, 99 of 100 within %.1f ms, at most %.1f ms, the first in %.1f ms, "
               "%d of 400 above 50 ms" % (alone[50] * 1e3, alone[-1] * 1e3, beside[200] * 1e3, beside[396] * 1e3, beside[-1] * 1e3, found[0] * 1e3, late))
         took = min(staying(host) for _ in range(3))
-        check("%d callers that don't close are answered within %.1f s" % (STAYING, ALL_SOON), took < ALL_SOON, took)
-        check("a caller beside 60 silent peers, 16 drips and 8 slow readers", late <= 4 * LATER and beside[-1] < LATEST, (late, beside[-1]))
+        check_that("%d callers that don't close are answered within %.1f s" % (STAYING, ALL_SOON), took < ALL_SOON, took)
+        check_that("a caller beside 60 silent peers, 16 drips and 8 slow readers", late <= 4 * LATER and beside[-1] < LATEST, (late, beside[-1]))
         # One that reads slowly, but not too slowly, has all of it.
         conn = connect(host)
         conn.sendall(message("GET", "/downloads/files/local/large.gcode", host.key))
@@ -169,8 +167,8 @@ def slow_peers(folder):
         while part := conn.recv(1 << 16):
             text += part
             time.sleep(0.005)
-        check("a whole download", text.endswith(LARGE) and len(text) < len(LARGE) + 1000, len(text))
-        check("the end", host.shut_down()[0] == 0)
+        check_that("a whole download", text.endswith(LARGE) and len(text) < len(LARGE) + 1000, len(text))
+        check_that("the end", host.shut_down()[0] == 0)
     finally:
         host.kill()
 
@@ -179,4 +177,4 @@ def slow_peers(folder):
 if __name__ == "__main__":
     with tempfile.TemporaryDirectory() as made:
         slow_peers(made)
-    sys.exit(1 if failed else 0)
+    end()

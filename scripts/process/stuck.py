@@ -1,4 +1,4 @@
-"""A host whose printer stops reading; see stuck.sh.
+"""A host whose printer stops reading in the middle of a print: it goes on answering its callers, and gives the printer up after 16 seconds.
 
 The printer answers the hello. Then it reads nothing more, and goes on saying `ok` until the buffer between it and the host is full.
 """
@@ -12,18 +12,14 @@ import tempfile
 import termios
 import time
 
-sys.path.insert(0, "scripts/lib")
+sys.path.insert(0, __file__.rsplit("/", 2)[0] + "/lib")
+from checking import build, check_that, end  # noqa: E402
 from serving import LIMIT, Host  # noqa: E402
+
+build("octo")
 
 # How long an answer may take, in seconds, and how many of a hundred may take longer on a busy machine.
 SOON, LATER = 0.05, 5
-failed = False
-
-
-def check(name, holds, found=""):
-    global failed
-    print("ok: " + name if holds else "failed: %s: %r" % (name, found), flush=True)
-    failed = failed or not holds
 
 
 class Printer:
@@ -89,27 +85,27 @@ def stuck(folder):
         printer.answer_hello()
         host.until_state("Operational")
         status = host.upload("long.gcode", b"".join(b"G1 X%d.12345 Y%d.12345 Z0.12345 E0.12345\n" % (at, at) for at in range(1, 100000)), True).status
-        check("a print is begun", status == 201, status)
+        check_that("a print is begun", status == 201, status)
         full = printer.fill()
-        check("the buffer is full, by %d bytes" % full, full > 1000, full)
+        check_that("the buffer is full, by %d bytes" % full, full > 1000, full)
         beside = times(host, 100)
         late = sum(it > SOON for it in beside)
         print("100 answers beside it: %.1f ms, at most %.1f ms" % (beside[50] * 1e3, beside[-1] * 1e3), flush=True)
-        check("each caller is answered within 50 ms", late <= LATER and beside[-1] < 1, (late, beside[-1]))
-        check("the host still prints", host.state() == "Printing", host.state())
+        check_that("each caller is answered within 50 ms", late <= LATER and beside[-1] < 1, (late, beside[-1]))
+        check_that("the host still prints", host.state() == "Printing", host.state())
         host.until_state("Error")
         seconds = time.monotonic() - printer.asked
-        check("it gives up after 16 seconds", 15.9 < seconds < 18, seconds)
-        check("the end", host.shut_down()[0] == 0)
+        check_that("it gives up after 16 seconds", 15.9 < seconds < 18, seconds)
+        check_that("the end", host.shut_down()[0] == 0)
     finally:
         host.kill()
         printer.end()
     with open(host.errors) as log:
         lines = log.read().split("\n")
-    check("the log says why", "printer: the link failed: the printer doesn't read what is sent" in lines, lines)
+    check_that("the log says why", "printer: the link failed: the printer doesn't read what is sent" in lines, lines)
 
 
 if __name__ == "__main__":
     with tempfile.TemporaryDirectory() as made:
         stuck(made)
-    sys.exit(1 if failed else 0)
+    end()

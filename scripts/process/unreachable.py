@@ -1,4 +1,4 @@
-"""A host whose printer can't be reached; see unreachable.sh.
+"""A host whose printer can't be reached: it goes on answering its callers while it tries, and its log says why there is no link.
 
 The printer's port is that of a listener whose queue is full: the kernel drops what would connect, as a network does if the printer is off.
 """
@@ -9,21 +9,14 @@ import sys
 import tempfile
 import time
 
-sys.path.insert(0, "scripts/lib")
+sys.path.insert(0, __file__.rsplit("/", 2)[0] + "/lib")
+from checking import build, check, end  # noqa: E402
 from serving import Host  # noqa: E402
+
+build("octo")
 
 # No caller waits longer than this while the host connects, in seconds: a turn takes 10 milliseconds, and the machine may be busy.
 MOST = 0.25
-failed = False
-
-
-def check(name, found, wanted):
-    global failed
-    if found == wanted:
-        print("ok: " + name, flush=True)
-    else:
-        print("failed: %s: %r, wanted %r" % (name, found, wanted), flush=True)
-        failed = True
 
 
 def full_listener():
@@ -83,4 +76,4 @@ def unreachable(folder):
 if __name__ == "__main__":
     with tempfile.TemporaryDirectory() as work:
         unreachable(work)
-    sys.exit(failed)
+    end()

@@ -1,4 +1,6 @@
-"""What `octo serve` asks of the system for an upload and a deletion, as strace shows it; see upload.sh."""
+"""The system's calls of an upload: a worker writes the bytes to its part of the folder and syncs it, the house renames that file to NAME, and
+the worker syncs the folder, in this order and before the reply. A part that was left is removed when the host begins. At a deletion the
+house renames the file, and the worker syncs the folder and removes it. strace shows the calls."""
 
 import glob
 import os
@@ -8,24 +10,17 @@ import subprocess
 import sys
 import tempfile
 
-sys.path.insert(0, "scripts/lib")
+sys.path.insert(0, __file__.rsplit("/", 2)[0] + "/lib")
+from checking import build, check, end  # noqa: E402
 from serving import Host, until  # noqa: E402
+
+build("octo")
 
 CALLS = "open,openat,creat,write,pwrite64,writev,sendto,sendmsg,fsync,fdatasync,link,linkat,rename,renameat,renameat2,unlink,unlinkat"
 FIRST, SECOND = b"G28\nG1 X1\n", b"G28\nG1 X2\nG1 X3\n"
 UPLOADED = ["create part", "write part", "sync part", "rename part to file", "sync folder", "reply"]
 REPLACED = [*UPLOADED[:3], "keep former file", *UPLOADED[3:5], "remove former file", "reply"]
 REMOVED = ["rename file to removed", "sync folder", "remove removed", "reply"]
-failed = False
-
-
-def check(name, found, wanted):
-    global failed
-    if found == wanted:
-        print("ok: " + name, flush=True)
-    else:
-        print("failed: %s: %r, wanted %r" % (name, found, wanted), flush=True)
-        failed = True
 
 
 def cannot_trace():
@@ -131,4 +126,4 @@ def main():
 
 if __name__ == "__main__":
     main()
-    sys.exit(1 if failed else 0)
+    end()
