@@ -1,5 +1,5 @@
 #!/bin/sh
-# docs/THEOREM.md and docs/DEFINITIONS.md have the definitions as the sources have them.
+# docs/CLAUSES.md and docs/DEFINITIONS.md have the definitions as the sources have them.
 set -u
 cd "$(dirname "$0")/../.." || exit 2
 exec python3 scripts/theorem --check
