@@ -8,7 +8,7 @@ use Rattle.octo_floor.specs.declared.links.Links.{Links}
 use Rattle.octo_floor_bay.specs.Bay.{BayData, IsNewSession}
 use Rattle.octo_floor_round_proof.specs.Floor.{AreUp, FloorData, new_bay, new_floor}
 use Rattle.octo_floor_round_proof.proofs.Floors.{all_at}
-use Rattle.octo_floor_step.specs.Objects.{LinkState}
+use Rattle.printer_link.specs.Calls.{LinkState}
 use Rattle.floor_makers.specs.Links.{AreDown, AreOffline, memory_state, memory_states}
 
 -- no session of a new floor has a link

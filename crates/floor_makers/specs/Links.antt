@@ -1,7 +1,7 @@
 -- The links of a floor in memory.
 use Rattle.std.specs.Prelude.{◌≡◌, false, Some, List, All}
 use Rattle.octo_floor_bay.specs.Bay.{BayData}
-use Rattle.octo_floor_step.specs.Objects.{LinkState, link_state}
+use Rattle.printer_link.specs.Calls.{LinkState}
 use Rattle.octo_floor.specs.Links.{link_states}
 use Rattle.octo_floor.specs.declared.links.Links.{Links}
 use Rattle.printer_link.specs.Memory.{MemoryLinkData, link_kind, link_world}

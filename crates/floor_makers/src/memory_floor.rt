@@ -6,7 +6,7 @@ ghost use Rattle.floor_makers.specs.Links.{AreDown, AreOffline, memory_states};
 
 use crate::parts::{entries, links, names, ports_of, queue, sessions, shelf};
 use crate::shop::Shop;
-use octo_floor::{Floor, Links, Rounded, SessionList, Watch};
+use octo_floor::{Floor, Links, Rounded, SessionList, Unwatched, Watch};
 use octo_floor_rules::{FloorEnd, copies_left};
 use octo_keeper::{MemoryKeeper, MemoryShelf, Tables};
 use octo_outside::{Clock, ItemList, MemoryClock, NameList};
@@ -161,18 +161,12 @@ impl MemoryFloor {
 
     /// One run, of at most this number of rounds.
     pub fn run(&mut self, turns: u64) -> FloorEnd {
-        self.floor.run(
-            &mut self.links,
-            &mut self.keeper,
-            &mut self.shelf,
-            &mut self.clock,
-            turns,
-        )
+        self.run_watched(turns, &mut Unwatched)
     }
 
     /// The same, while something watches.
     pub fn run_watched<W: Watch>(&mut self, turns: u64, watch: &mut W) -> FloorEnd {
-        self.floor.run_watched(
+        self.floor.run(
             &mut self.links,
             &mut self.keeper,
             &mut self.shelf,

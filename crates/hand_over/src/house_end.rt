@@ -76,13 +76,12 @@ impl Counter for HouseEnd {
     ghost use Rattle.octo_asks.specs.History.{IsGiven, ask_given, own_call};
     ghost use Rattle.hand_over.specs.Ends.{AfterNext, house_place};
 
-    ghost place = { house_place };
-
-    ghost past = { λ e. Some e.view.history };
-
-    ghost given = { λ e. e.view.taken };
-
-    ghost closed = { λ e. e.view.closed };
+    ghost state = { λ e. record {
+      place = house_place e;
+      past = Some e.view.history;
+      given = e.view.taken;
+      closed = e.view.closed;
+    } };
 
     /// Looks at the four workers' words once each.
     /// The first word is the one of the worker after the one last handed out.

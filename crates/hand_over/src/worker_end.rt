@@ -41,11 +41,11 @@ impl<R: Wait> Asker for WorkerEnd<R> {
     ghost use Rattle.octo_asks.specs.History.{History, Finishes};
     ghost use Rattle.hand_over.specs.Ends.{AfterAsk, worker_place};
 
-    ghost place = { worker_place };
-
-    ghost mine = { λ e. Some e.view.mine };
-
-    ghost saw_close = { λ e. e.view.saw_close };
+    ghost state = { λ e. record {
+      place = worker_place e;
+      mine = Some e.view.mine;
+      saw_close = e.view.saw_close;
+    } };
 
     /// Puts the ask into the worker's slot, rings, and waits until the house has answered it, or has
     /// ended and never took it.

@@ -29,12 +29,12 @@ fn finished_row(number: u32) -> PrintRow
 
 fn add_print<K: Keeper>(alloc: Global, keeper: &mut K, number: u32) -> Result<(), KeeperFault>
     ensures ok { OnOk result
-        (K.tables keeper.new ≡ option_map (with_print number) (K.tables keeper.old)) }
-    ensures err { OnErr result (K.tables keeper.new ≡ K.tables keeper.old) }
+        ((K.state keeper.new).tables ≡ option_map (with_print number) (K.state keeper.old).tables) }
+    ensures err { OnErr result ((K.state keeper.new).tables ≡ (K.state keeper.old).tables) }
     ensures counts { Counts (IsErrOf result fault.Failed)
-        (K.faults keeper.old) (K.faults keeper.new) }
+        (K.state keeper.old).faults (K.state keeper.new).faults }
     ensures steady { (IsErrOf result fault.Failed → ⊥)
-        → K.faults keeper.new ≡ K.faults keeper.old }
+        → (K.state keeper.new).faults ≡ (K.state keeper.old).faults }
 {
     let change = Change::Begin {
         ended: None,
@@ -53,12 +53,12 @@ fn add_from<K: Keeper>(
 ) -> Result<(), KeeperFault>
     requires { first + prints ≤ most_u32 }
     ensures ok { OnOk result
-        (K.tables keeper.new ≡ option_map (with_prints first prints) (K.tables keeper.old)) }
-    ensures err { OnErr result (AddsFrom first prints (K.tables keeper.old) (K.tables keeper.new)) }
+        ((K.state keeper.new).tables ≡ option_map (with_prints first prints) (K.state keeper.old).tables) }
+    ensures err { OnErr result (AddsFrom first prints (K.state keeper.old).tables (K.state keeper.new).tables) }
     ensures counts { Counts (IsErrOf result fault.Failed)
-        (K.faults keeper.old) (K.faults keeper.new) }
+        (K.state keeper.old).faults (K.state keeper.new).faults }
     ensures steady { (IsErrOf result fault.Failed → ⊥)
-        → K.faults keeper.new ≡ K.faults keeper.old }
+        → (K.state keeper.new).faults ≡ (K.state keeper.old).faults }
 {
     for place in 0..prints {
         add_print(alloc, keeper, first + place)?;
@@ -80,16 +80,16 @@ fn first_number(held: usize, prints: u32) -> Option<u32>
 /// Adds records of finished prints, each by a change of its own, numbered after those that the tables hold.
 pub fn add_prints<K: Keeper>(alloc: Global, keeper: &mut K, prints: u32) -> ToolEnd
     ensures all { result ≡ end.Added prints
-        → K.tables keeper.new ≡ option_map (with_more prints) (K.tables keeper.old) }
-    ensures some { AddsUpTo prints (K.tables keeper.old) (K.tables keeper.new) }
+        → (K.state keeper.new).tables ≡ option_map (with_more prints) (K.state keeper.old).tables }
+    ensures some { AddsUpTo prints (K.state keeper.old).tables (K.state keeper.new).tables }
     ensures count { (n : ℕ) → result ≡ end.Added n → n ≡ prints }
     ensures only { result ≢ end.Shown }
     ensures kind { is_adding result ≡ true }
     ensures numbers { result ≡ end.NumbersUsed
-        → IfSome (K.tables keeper.old) (λ t. most_u32 < length t.prints + 1 + prints) }
+        → IfSome (K.state keeper.old).tables (λ t. most_u32 < length t.prints + 1 + prints) }
     ensures counts { Counts (result ≡ end.KeeperFailed)
-        (K.faults keeper.old) (K.faults keeper.new) }
-    ensures steady { result ≢ end.KeeperFailed → K.faults keeper.new ≡ K.faults keeper.old }
+        (K.state keeper.old).faults (K.state keeper.new).faults }
+    ensures steady { result ≢ end.KeeperFailed → (K.state keeper.new).faults ≡ (K.state keeper.old).faults }
 {
     let tables = match keeper.load(alloc) {
         Ok(tables) => tables,

@@ -19,15 +19,15 @@ use std::alloc::Global;
 
 // Writes the tables out.
 fn show<K: Keeper, O: Sink>(alloc: Global, keeper: &mut K, out: &mut O) -> ToolEnd
-    ensures shown { result ≡ end.Shown → IfSome (K.tables keeper.old)
+    ensures shown { result ≡ end.Shown → IfSome (K.state keeper.old).tables
         (λ t. Adds (O.written out.old) (O.written out.new) (tables_text t)) }
     ensures only { (n : ℕ) → result ≢ end.Added n }
     ensures kind { is_showing result ≡ true }
-    ensures wrote { Wrote (K.tables keeper.old) result (O.written out.old) (O.written out.new) }
-    ensures stays { K.tables keeper.new ≡ K.tables keeper.old }
+    ensures wrote { Wrote (K.state keeper.old).tables result (O.written out.old) (O.written out.new) }
+    ensures stays { (K.state keeper.new).tables ≡ (K.state keeper.old).tables }
     ensures counts { Counts (result ≡ end.KeeperFailed)
-        (K.faults keeper.old) (K.faults keeper.new) }
-    ensures steady { result ≢ end.KeeperFailed → K.faults keeper.new ≡ K.faults keeper.old }
+        (K.state keeper.old).faults (K.state keeper.new).faults }
+    ensures steady { result ≢ end.KeeperFailed → (K.state keeper.new).faults ≡ (K.state keeper.old).faults }
     ensures output { Counts (result ≡ end.OutputFailed) (O.faults out.old) (O.faults out.new) }
 {
     let tables = match keeper.load(alloc) {
@@ -50,24 +50,24 @@ pub fn carry_out<K: Keeper, O: Sink>(
     task: Task,
     out: &mut O,
 ) -> ToolEnd
-    ensures shown { result ≡ end.Shown → IfSome (K.tables keeper.old)
+    ensures shown { result ≡ end.Shown → IfSome (K.state keeper.old).tables
         (λ t. Adds (O.written out.old) (O.written out.new) (tables_text t)) }
     ensures added { (n : ℕ) → result ≡ end.Added n → (task ≡ todo.Add n)
-        × (K.tables keeper.new ≡ option_map (with_more n) (K.tables keeper.old)) }
+        × ((K.state keeper.new).tables ≡ option_map (with_more n) (K.state keeper.old).tables) }
     ensures some { (n : ℕ) → task ≡ todo.Add n
-        → AddsUpTo n (K.tables keeper.old) (K.tables keeper.new) }
-    ensures stays { task ≡ todo.Show → K.tables keeper.new ≡ K.tables keeper.old }
+        → AddsUpTo n (K.state keeper.old).tables (K.state keeper.new).tables }
+    ensures stays { task ≡ todo.Show → (K.state keeper.new).tables ≡ (K.state keeper.old).tables }
 
     // It ends as such a task does, and nothing else is written.
     ensures kind { may_end task result ≡ true }
     ensures numbers { (n : ℕ) → task ≡ todo.Add n → result ≡ end.NumbersUsed
-        → IfSome (K.tables keeper.old) (λ t. most_u32 < length t.prints + 1 + n) }
-    ensures wrote { Wrote (K.tables keeper.old) result (O.written out.old) (O.written out.new) }
+        → IfSome (K.state keeper.old).tables (λ t. most_u32 < length t.prints + 1 + n) }
+    ensures wrote { Wrote (K.state keeper.old).tables result (O.written out.old) (O.written out.new) }
 
     // Faults, by their counts.
     ensures counts { Counts (result ≡ end.KeeperFailed)
-        (K.faults keeper.old) (K.faults keeper.new) }
-    ensures steady { result ≢ end.KeeperFailed → K.faults keeper.new ≡ K.faults keeper.old }
+        (K.state keeper.old).faults (K.state keeper.new).faults }
+    ensures steady { result ≢ end.KeeperFailed → (K.state keeper.new).faults ≡ (K.state keeper.old).faults }
     ensures output { Counts (result ≡ end.OutputFailed) (O.faults out.old) (O.faults out.new) }
 {
     match task {

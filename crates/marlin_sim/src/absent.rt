@@ -31,13 +31,7 @@ impl Conn for AbsentConn {
     ghost use Rattle.octo_outside.specs.Recorded.{Adds, Counts};
     ghost use Rattle.octo_outside.specs.Traits.{IsWithin};
 
-    ghost left = { λ _. None };
-
-    ghost written = { λ _. None };
-
-    ghost faults = { λ c. c.faults };
-
-    ghost quiets = { λ _. 0 };
+    ghost state = { λ c. record { left = None; written = None; faults = c.faults; quiets = 0 } };
 
     fn read(&mut self, _into: &mut [u8]) -> Result<Got, Failed>
         requires { 0 < length _into.old }

@@ -36,15 +36,15 @@ const TEXT: usize = 16384;
 
 /// Writes the replies. Fails if the connection does; then the replies stay.
 pub fn send_replies<C: Conn>(conn: &mut C, sim: &mut Sim) -> Result<(), Failed>
-    ensures ok { OnOk result (Adds (C.written conn.old) (C.written conn.new) sim.old.replies.text) }
+    ensures ok { OnOk result (Adds (C.state conn.old).written (C.state conn.new).written sim.old.replies.text) }
     ensures after { OnOk result
         (sim.new ≡ record sim.old { replies = record sim.old.replies { text = [] } }) }
     ensures err { OnErr result
-        (AddsPrefix (C.written conn.old) (C.written conn.new) sim.old.replies.text) }
+        (AddsPrefix (C.state conn.old).written (C.state conn.new).written sim.old.replies.text) }
     ensures same { OnErr result (sim.new ≡ sim.old) }
-    ensures left { C.left conn.new ≡ C.left conn.old }
-    ensures quiets { C.quiets conn.new ≡ C.quiets conn.old }
-    ensures counts { Counts (IsErr result) (C.faults conn.old) (C.faults conn.new) }
+    ensures left { (C.state conn.new).left ≡ (C.state conn.old).left }
+    ensures quiets { (C.state conn.new).quiets ≡ (C.state conn.old).quiets }
+    ensures counts { Counts (IsErr result) (C.state conn.old).faults (C.state conn.new).faults }
 {
     send_all(conn, sim.replies())?;
     sim.clear_replies();
@@ -75,18 +75,18 @@ fn next_of(ran: bool) -> Next
 fn deliver<C: Conn, O: Sink>(conn: &mut C, out: &mut O, sim: &mut Sim, ran: bool) -> Next
     ensures follows { (plan : SimPlan) (input : List ℕ) (first : Outside)
         → Serves plan input first
-        (outside (C.left conn.old) (C.written conn.old) (O.written out.old)) sim.old
+        (outside (C.state conn.old).left (C.state conn.old).written (O.written out.old)) sim.old
         → After result plan input first
-        (outside (C.left conn.new) (C.written conn.new) (O.written out.new)) sim.new }
+        (outside (C.state conn.new).left (C.state conn.new).written (O.written out.new)) sim.new }
     ensures on { result ≡ next.On → ran ≡ true }
     ensures over { result ≡ next.Over → ran ≡ false }
     ensures printer { sim.new.printer ≡ sim.old.printer }
     ensures below { sim.new.below ≡ sim.old.below }
     ensures lines { sim.new.lines ≡ sim.old.lines }
     ensures written { (result ≡ next.On) ⊎ (result ≡ next.Over) → sim.new.replies.text ≡ [] }
-    ensures left { C.left conn.new ≡ C.left conn.old }
-    ensures quiets { C.quiets conn.new ≡ C.quiets conn.old }
-    ensures conn { Counts (result ≡ next.ConnFailed) (C.faults conn.old) (C.faults conn.new) }
+    ensures left { (C.state conn.new).left ≡ (C.state conn.old).left }
+    ensures quiets { (C.state conn.new).quiets ≡ (C.state conn.old).quiets }
+    ensures conn { Counts (result ≡ next.ConnFailed) (C.state conn.old).faults (C.state conn.new).faults }
     ensures sink { Counts (result ≡ next.SinkFailed) (O.faults out.old) (O.faults out.new) }
 {
     let Ok(()) = send_replies(conn, sim) else {
@@ -105,17 +105,17 @@ fn deliver<C: Conn, O: Sink>(conn: &mut C, out: &mut O, sim: &mut Sim, ran: bool
 fn step_and_reply<C: Conn, O: Sink>(conn: &mut C, out: &mut O, sim: &mut Sim) -> Next
     ensures follows { (plan : SimPlan) (input : List ℕ) (first : Outside)
         → Serves plan input first
-        (outside (C.left conn.old) (C.written conn.old) (O.written out.old)) sim.old
+        (outside (C.state conn.old).left (C.state conn.old).written (O.written out.old)) sim.old
         → After result plan input first
-        (outside (C.left conn.new) (C.written conn.new) (O.written out.new)) sim.new }
+        (outside (C.state conn.new).left (C.state conn.new).written (O.written out.new)) sim.new }
     ensures acts { (result ≡ next.On) ⊎ (result ≡ next.Over) → StepsAndReplies sim.old sim.new }
     ensures idle { result ≡ next.Over → 1 ≤ sim.old.printer.slots → IsIdle sim.new }
     ensures work { result ≡ next.On → work sim.new < work sim.old }
     ensures slots { (result ≡ next.On) ⊎ (result ≡ next.Over)
         → sim.new.printer.slots ≡ sim.old.printer.slots }
-    ensures left { C.left conn.new ≡ C.left conn.old }
-    ensures quiets { C.quiets conn.new ≡ C.quiets conn.old }
-    ensures conn { Counts (result ≡ next.ConnFailed) (C.faults conn.old) (C.faults conn.new) }
+    ensures left { (C.state conn.new).left ≡ (C.state conn.old).left }
+    ensures quiets { (C.state conn.new).quiets ≡ (C.state conn.old).quiets }
+    ensures conn { Counts (result ≡ next.ConnFailed) (C.state conn.old).faults (C.state conn.new).faults }
     ensures sink { Counts (result ≡ next.SinkFailed) (O.faults out.old) (O.faults out.new) }
 {
     match sim.step() {
@@ -129,14 +129,14 @@ fn drain<C: Conn, O: Sink>(conn: &mut C, out: &mut O, sim: &mut Sim) -> SimEnd
     requires { 1 ≤ sim.old.printer.slots }
     ensures follows { (plan : SimPlan) (input : List ℕ) (first : Outside)
         → Serves plan input first
-        (outside (C.left conn.old) (C.written conn.old) (O.written out.old)) sim.old
-        → C.left conn.old ≡ Some []
+        (outside (C.state conn.old).left (C.state conn.old).written (O.written out.old)) sim.old
+        → (C.state conn.old).left ≡ Some []
         → Ending result plan input first
-        (outside (C.left conn.new) (C.written conn.new) (O.written out.new)) sim.new }
+        (outside (C.state conn.new).left (C.state conn.new).written (O.written out.new)) sim.new }
     ensures plan { result ≢ end.BadPlan }
     ensures turns { (turns : ℕ) → result ≢ end.TurnsUsed turns }
-    ensures quiets { C.quiets conn.new ≡ C.quiets conn.old }
-    ensures conn { Counts (result ≡ end.ConnFailed) (C.faults conn.old) (C.faults conn.new) }
+    ensures quiets { (C.state conn.new).quiets ≡ (C.state conn.old).quiets }
+    ensures conn { Counts (result ≡ end.ConnFailed) (C.state conn.old).faults (C.state conn.new).faults }
     ensures sink { Counts (result ≡ end.SinkFailed) (O.faults out.old) (O.faults out.new) }
 {
     loop {
@@ -154,15 +154,15 @@ fn drain<C: Conn, O: Sink>(conn: &mut C, out: &mut O, sim: &mut Sim) -> SimEnd
 fn go_on<C: Conn, O: Sink>(conn: &mut C, out: &mut O, sim: &mut Sim) -> Next
     ensures follows { (plan : SimPlan) (input : List ℕ) (first : Outside)
         → Serves plan input first
-        (outside (C.left conn.old) (C.written conn.old) (O.written out.old)) sim.old
+        (outside (C.state conn.old).left (C.state conn.old).written (O.written out.old)) sim.old
         → After result plan input first
-        (outside (C.left conn.new) (C.written conn.new) (O.written out.new)) sim.new }
+        (outside (C.state conn.new).left (C.state conn.new).written (O.written out.new)) sim.new }
     ensures acts { result ≡ next.On → StepsAndReplies sim.old sim.new }
     ensures open { result ≢ next.Over }
     ensures slots { result ≡ next.On → sim.new.printer.slots ≡ sim.old.printer.slots }
-    ensures left { C.left conn.new ≡ C.left conn.old }
-    ensures quiets { C.quiets conn.new ≡ C.quiets conn.old }
-    ensures conn { Counts (result ≡ next.ConnFailed) (C.faults conn.old) (C.faults conn.new) }
+    ensures left { (C.state conn.new).left ≡ (C.state conn.old).left }
+    ensures quiets { (C.state conn.new).quiets ≡ (C.state conn.old).quiets }
+    ensures conn { Counts (result ≡ next.ConnFailed) (C.state conn.old).faults (C.state conn.new).faults }
     ensures sink { Counts (result ≡ next.SinkFailed) (O.faults out.old) (O.faults out.new) }
 {
     match step_and_reply(conn, out, sim) {
@@ -181,18 +181,18 @@ fn receive<C: Conn, O: Sink>(
 ) -> Next
     requires { IsPlan plan.now }
     ensures follows { (input rest wrote printed : List ℕ) (first : Outside)
-        → Adds first.wrote (C.written conn.old) wrote
+        → Adds first.wrote (C.state conn.old).written wrote
         → Adds first.printed (O.written out.old) printed
-        → C.left conn.old ≡ Some rest
+        → (C.state conn.old).left ≡ Some rest
         → FollowsModel plan.now input (bytes.now ++ rest) sim.old wrote printed
         → After result plan.now input first
-        (outside (C.left conn.new) (C.written conn.new) (O.written out.new)) sim.new }
+        (outside (C.state conn.new).left (C.state conn.new).written (O.written out.new)) sim.new }
     ensures acts { result ≡ next.On → StepsAndRepliesOn sim.old.printer sim.new }
     ensures open { result ≢ next.Over }
     ensures slots { result ≡ next.On → sim.new.printer.slots ≡ sim.old.printer.slots }
-    ensures left { C.left conn.new ≡ C.left conn.old }
-    ensures quiets { C.quiets conn.new ≡ C.quiets conn.old }
-    ensures conn { Counts (result ≡ next.ConnFailed) (C.faults conn.old) (C.faults conn.new) }
+    ensures left { (C.state conn.new).left ≡ (C.state conn.old).left }
+    ensures quiets { (C.state conn.new).quiets ≡ (C.state conn.old).quiets }
+    ensures conn { Counts (result ≡ next.ConnFailed) (C.state conn.old).faults (C.state conn.new).faults }
     ensures sink { Counts (result ≡ next.SinkFailed) (O.faults out.old) (O.faults out.new) }
 {
     match sim.receive(plan, bytes) {
@@ -207,20 +207,20 @@ pub fn take_turn<C: Conn, O: Sink>(conn: &mut C, out: &mut O, sim: &mut Sim, pla
     requires { IsPlan plan.now }
     ensures follows { (input : List ℕ) (first : Outside)
         → Going plan.now input first
-        (outside (C.left conn.old) (C.written conn.old) (O.written out.old)) sim.old
+        (outside (C.state conn.old).left (C.state conn.old).written (O.written out.old)) sim.old
         → After result plan.now input first
-        (outside (C.left conn.new) (C.written conn.new) (O.written out.new)) sim.new }
+        (outside (C.state conn.new).left (C.state conn.new).written (O.written out.new)) sim.new }
     ensures acts { result ≡ next.On → StepsAndRepliesOn sim.old.printer sim.new }
     ensures quiet { result ≡ next.On
-        → C.quiets conn.new ≢ C.quiets conn.old → StepsAndReplies sim.old sim.new }
+        → (C.state conn.new).quiets ≢ (C.state conn.old).quiets → StepsAndReplies sim.old sim.new }
     ensures closed { result ≡ next.Over
-        → IfSome (C.left conn.old) (λ _. C.left conn.new ≡ Some []) }
-    ensures used { result ≡ next.On → IfSome (C.left conn.old)
-        (λ before. IsUsed 1 before (C.left conn.new) (C.quiets conn.old) (C.quiets conn.new)) }
+        → IfSome (C.state conn.old).left (λ _. (C.state conn.new).left ≡ Some []) }
+    ensures used { result ≡ next.On → IfSome (C.state conn.old).left
+        (λ before. IsUsed 1 before (C.state conn.new).left (C.state conn.old).quiets (C.state conn.new).quiets) }
     ensures slots { (result ≡ next.On) ⊎ (result ≡ next.Over)
         → sim.new.printer.slots ≡ sim.old.printer.slots }
-    ensures quiets_counted { C.quiets conn.old ≤ C.quiets conn.new }
-    ensures conn { Counts (result ≡ next.ConnFailed) (C.faults conn.old) (C.faults conn.new) }
+    ensures quiets_counted { (C.state conn.old).quiets ≤ (C.state conn.new).quiets }
+    ensures conn { Counts (result ≡ next.ConnFailed) (C.state conn.old).faults (C.state conn.new).faults }
     ensures sink { Counts (result ≡ next.SinkFailed) (O.faults out.old) (O.faults out.new) }
 {
     let mut chunk = [0; CHUNK];
@@ -243,14 +243,14 @@ pub fn take_turns<C: Conn, O: Sink>(
     requires slots { sim.old.printer.slots ≡ plan.now.slots }
     ensures follows { (input : List ℕ) (first : Outside)
         → Going plan.now input first
-        (outside (C.left conn.old) (C.written conn.old) (O.written out.old)) sim.old
+        (outside (C.state conn.old).left (C.state conn.old).written (O.written out.old)) sim.old
         → Ending result plan.now input first
-        (outside (C.left conn.new) (C.written conn.new) (O.written out.new)) sim.new }
+        (outside (C.state conn.new).left (C.state conn.new).written (O.written out.new)) sim.new }
     ensures plan { result ≢ end.BadPlan }
     ensures turns { (turns : ℕ) → result ≡ end.TurnsUsed turns → turns ≡ plan.now.turns }
-    ensures used { (turns : ℕ) → result ≡ end.TurnsUsed turns → IfSome (C.left conn.old)
-        (λ before. IsUsed turns before (C.left conn.new) (C.quiets conn.old) (C.quiets conn.new)) }
-    ensures conn { Counts (result ≡ end.ConnFailed) (C.faults conn.old) (C.faults conn.new) }
+    ensures used { (turns : ℕ) → result ≡ end.TurnsUsed turns → IfSome (C.state conn.old).left
+        (λ before. IsUsed turns before (C.state conn.new).left (C.state conn.old).quiets (C.state conn.new).quiets) }
+    ensures conn { Counts (result ≡ end.ConnFailed) (C.state conn.old).faults (C.state conn.new).faults }
     ensures sink { Counts (result ≡ end.SinkFailed) (O.faults out.old) (O.faults out.new) }
 {
     for _ in 0..plan.turns {

@@ -19,14 +19,14 @@ fn begin<C: Conn, O: Sink>(conn: &mut C, out: &mut O, sim: &mut Sim, plan: &SimP
     requires slots { sim.old.printer.slots ≡ plan.now.slots }
     ensures follows { (input : List ℕ) (first : Outside)
         → Serves plan.now input first
-        (outside (C.left conn.old) (C.written conn.old) (O.written out.old)) sim.old
+        (outside (C.state conn.old).left (C.state conn.old).written (O.written out.old)) sim.old
         → Ending result plan.now input first
-        (outside (C.left conn.new) (C.written conn.new) (O.written out.new)) sim.new }
+        (outside (C.state conn.new).left (C.state conn.new).written (O.written out.new)) sim.new }
     ensures plan { result ≢ end.BadPlan }
     ensures turns { (turns : ℕ) → result ≡ end.TurnsUsed turns → turns ≡ plan.now.turns }
-    ensures used { (turns : ℕ) → result ≡ end.TurnsUsed turns → IfSome (C.left conn.old)
-        (λ before. IsUsed turns before (C.left conn.new) (C.quiets conn.old) (C.quiets conn.new)) }
-    ensures conn { Counts (result ≡ end.ConnFailed) (C.faults conn.old) (C.faults conn.new) }
+    ensures used { (turns : ℕ) → result ≡ end.TurnsUsed turns → IfSome (C.state conn.old).left
+        (λ before. IsUsed turns before (C.state conn.new).left (C.state conn.old).quiets (C.state conn.new).quiets) }
+    ensures conn { Counts (result ≡ end.ConnFailed) (C.state conn.old).faults (C.state conn.new).faults }
     ensures sink { Counts (result ≡ end.SinkFailed) (O.faults out.old) (O.faults out.new) }
 {
     match send_replies(conn, sim) {
@@ -68,14 +68,14 @@ pub fn simulate<C: Conn, O: Sink>(
     plan: &SimPlan,
 ) -> SimEnd
     requires { IsPlan plan.now }
-    ensures served { IfSome (C.left conn.old) (λ input. Outcome result plan.now input
-        (outside (C.left conn.old) (C.written conn.old) (O.written out.old))
-        (outside (C.left conn.new) (C.written conn.new) (O.written out.new))) }
+    ensures served { IfSome (C.state conn.old).left (λ input. Outcome result plan.now input
+        (outside (C.state conn.old).left (C.state conn.old).written (O.written out.old))
+        (outside (C.state conn.new).left (C.state conn.new).written (O.written out.new))) }
     ensures plan { result ≢ end.BadPlan }
     ensures turns { (turns : ℕ) → result ≡ end.TurnsUsed turns → turns ≡ plan.now.turns }
-    ensures used { (turns : ℕ) → result ≡ end.TurnsUsed turns → IfSome (C.left conn.old)
-        (λ before. IsUsed turns before (C.left conn.new) (C.quiets conn.old) (C.quiets conn.new)) }
-    ensures conn { Counts (result ≡ end.ConnFailed) (C.faults conn.old) (C.faults conn.new) }
+    ensures used { (turns : ℕ) → result ≡ end.TurnsUsed turns → IfSome (C.state conn.old).left
+        (λ before. IsUsed turns before (C.state conn.new).left (C.state conn.old).quiets (C.state conn.new).quiets) }
+    ensures conn { Counts (result ≡ end.ConnFailed) (C.state conn.old).faults (C.state conn.new).faults }
     ensures sink { Counts (result ≡ end.SinkFailed) (O.faults out.old) (O.faults out.new) }
 {
     let mut sim = match Sim::new(alloc, plan) {
@@ -91,17 +91,17 @@ pub fn sim<C: Conn, O: Sink>(alloc: Global, words: &WordList, conn: &mut C, out:
     ensures no_plan { plan_of words.now ≡ None → (result ≡ end.BadPlan) ⊎ (result ≡ end.NoMemory) }
     ensures bad_plan { result ≡ end.BadPlan → plan_of words.now ≡ None }
     ensures unused { plan_of words.now ≡ None
-        → outside (C.left conn.new) (C.written conn.new) (O.written out.new)
-        ≡ outside (C.left conn.old) (C.written conn.old) (O.written out.old) }
+        → outside (C.state conn.new).left (C.state conn.new).written (O.written out.new)
+        ≡ outside (C.state conn.old).left (C.state conn.old).written (O.written out.old) }
     ensures served { (plan : SimPlan) → plan_of words.now ≡ Some plan
-        → IfSome (C.left conn.old) (λ input. Outcome result plan input
-        (outside (C.left conn.old) (C.written conn.old) (O.written out.old))
-        (outside (C.left conn.new) (C.written conn.new) (O.written out.new))) }
+        → IfSome (C.state conn.old).left (λ input. Outcome result plan input
+        (outside (C.state conn.old).left (C.state conn.old).written (O.written out.old))
+        (outside (C.state conn.new).left (C.state conn.new).written (O.written out.new))) }
     ensures turns { (plan : SimPlan) (turns : ℕ) → plan_of words.now ≡ Some plan
         → result ≡ end.TurnsUsed turns → turns ≡ plan.turns }
-    ensures used { (turns : ℕ) → result ≡ end.TurnsUsed turns → IfSome (C.left conn.old)
-        (λ before. IsUsed turns before (C.left conn.new) (C.quiets conn.old) (C.quiets conn.new)) }
-    ensures conn { Counts (result ≡ end.ConnFailed) (C.faults conn.old) (C.faults conn.new) }
+    ensures used { (turns : ℕ) → result ≡ end.TurnsUsed turns → IfSome (C.state conn.old).left
+        (λ before. IsUsed turns before (C.state conn.new).left (C.state conn.old).quiets (C.state conn.new).quiets) }
+    ensures conn { Counts (result ≡ end.ConnFailed) (C.state conn.old).faults (C.state conn.new).faults }
     ensures sink { Counts (result ≡ end.SinkFailed) (O.faults out.old) (O.faults out.new) }
 {
     match read_plan(alloc, words) {

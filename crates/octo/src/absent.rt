@@ -27,11 +27,7 @@ impl AbsentKeeper {
 }
 
 impl Keeper for AbsentKeeper {
-    ghost tables = { λ _. None };
-
-    ghost saved = { λ _. None };
-
-    ghost faults = { λ k. k.faults };
+    ghost state = { λ k. record { tables = None; saved = None; faults = k.faults } };
 
     fn load(&mut self, _alloc: Global) -> Result<Tables, KeeperFault> {
         self.fail();

@@ -4,7 +4,7 @@ use Rattle.std.specs.Prelude.{All}
 use Rattle.std.proofs.lemmas.List.Elements.{All-nil, All-cons, All-append}
 use Rattle.octo_outside.specs.Recorded.{Adds}
 use Rattle.octo_outside.proofs.Recorded.{became_then, became_same, became_so, adds_then}
-use Rattle.octo_outside_doors.specs.Doors.{ConnState}
+use Rattle.octo_outside.specs.Conns.{ConnState}
 use Rattle.octo_asks.specs.declared.entry.Entry.TheVariants as entry
 use Rattle.octo_asks.specs.declared.request.Request.TheVariants as request
 use Rattle.octo_api_requests.specs.Callers.{IsCallers}

@@ -4,7 +4,8 @@ use Rattle.octo_outside.specs.Recorded.{Adds}
 use Rattle.octo_outside.proofs.Recorded.{adds_then, adds_none}
 use Rattle.octo_asks.specs.History.{History}
 use Rattle.octo_outside_doors.specs.declared.door.Knock.TheVariants as knock
-use Rattle.octo_outside_doors.specs.Doors.{ConnState, fresh_conn, Comes}
+use Rattle.octo_outside.specs.Conns.{ConnState}
+use Rattle.octo_outside_doors.specs.Doors.{fresh_conn, Comes}
 use Rattle.octo_api_worker.specs.declared.at_door.Visit.{Visit}
 use Rattle.octo_api_worker.specs.declared.at_door.Visit.TheVariants as visit
 use Rattle.octo_api_worker.specs.declared.terms.Terms.{Terms}

@@ -4,7 +4,8 @@ use Rattle.std.specs.Prelude.{IfSome, Result, Ok, Err}
 use Rattle.std.proofs.Math.Seq.{take-append-add}
 use Rattle.octo_outside.specs.Recorded.{Adds, AddsPrefix, Rose}
 use Rattle.octo_asks.specs.History.{History}
-use Rattle.octo_outside_doors.specs.Doors.{ConnState, fresh_conn}
+use Rattle.octo_outside.specs.Conns.{ConnState}
+use Rattle.octo_outside_doors.specs.Doors.{fresh_conn}
 use Rattle.octo_http.specs.declared.fault.MessageFault.{MessageFault}
 use Rattle.octo_http.specs.declared.fault.MessageFault.TheVariants.{ReadFault}
 use Rattle.octo_http.specs.declared.message.Message.{Message}

@@ -3,7 +3,8 @@ use Rattle.std.specs.Prelude.{◌≡◌, ◌⊎◌, ℕ, ◌<◌, Bool, true, fa
 use Rattle.std.specs.Option.{option_map_or}
 use Rattle.arrayvec.specs.ArrayVec.{ArrayVec}
 use Rattle.octo_outside.specs.Recorded.{Adds, AddsPrefix, Rose}
-use Rattle.octo_outside_doors.specs.Doors.{ConnState, fresh_conn}
+use Rattle.octo_outside.specs.Conns.{ConnState}
+use Rattle.octo_outside_doors.specs.Doors.{fresh_conn}
 use Rattle.octo_http.specs.declared.fault.MessageFault.{MessageFault}
 use Rattle.octo_http.specs.declared.fault.MessageFault.TheVariants.{ReadFault}
 use Rattle.octo_http.specs.declared.head.Head.{Head}

@@ -1,7 +1,7 @@
 -- What a worker did at its door: the connections that it served, in order, and its calls.
 use Rattle.std.specs.Prelude.{◌≡◌, ◌⊎◌, ℕ, Bool, true, false, List, [], ◌∷◌, ◌++◌, All, Option, Some}
 use Rattle.octo_outside.specs.Recorded.{Became, Adds}
-use Rattle.octo_outside_doors.specs.Doors.{ConnState}
+use Rattle.octo_outside.specs.Conns.{ConnState}
 use Rattle.octo_asks.specs.declared.answer.Answer.{Answer}
 use Rattle.octo_asks.specs.declared.request.Ask.{Ask}
 use Rattle.octo_asks.specs.declared.request.Request.TheVariants.{Leave}

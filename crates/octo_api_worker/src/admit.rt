@@ -111,16 +111,16 @@ fn ask_whom<A: Asker>(
 ) -> Option<Replied>
     ensures known { IfNone result ((head : Head) → needs_key head ≡ true
         → ask ≡ whom_ask head.key
-        → (first : History) × Admits head first × Adds (A.mine asker.old) (A.mine asker.new) first) }
+        → (first : History) × Admits head first × Adds (A.state asker.old).mine (A.state asker.new).mine first) }
     ensures turned { IfSome result (λ replied. (origins : List (List ℕ)) → (head : Head)
         → origin.now ≡ listed origins head.origin → needs_key head ≡ true → ask ≡ whom_ask head.key
         → (calls : History)
         × IsTurnedAway origins head replied.reply replied.is_open calls
-        × Adds (A.mine asker.old) (A.mine asker.new) calls) }
+        × Adds (A.state asker.old).mine (A.state asker.new).mine calls) }
     ensures closed { IfSome result
-        (λ replied. replied.is_open ≡ false → A.saw_close asker.new ≡ true) }
-    ensures seen { A.saw_close asker.old ≡ true → A.saw_close asker.new ≡ true }
-    ensures place { A.place asker.new ≡ A.place asker.old }
+        (λ replied. replied.is_open ≡ false → (A.state asker.new).saw_close ≡ true) }
+    ensures seen { (A.state asker.old).saw_close ≡ true → (A.state asker.new).saw_close ≡ true }
+    ensures place { (A.state asker.new).place ≡ (A.state asker.old).place }
 {
     match asker.ask(ask) {
         Ok(answer) => match refusal_of(answer) {
@@ -146,14 +146,14 @@ pub(crate) fn turn_away<A: Asker>(
     head: &Head,
 ) -> Option<Replied>
     ensures known { IfNone result ((first : History) × Admits head.now first
-        × Adds (A.mine asker.old) (A.mine asker.new) first) }
+        × Adds (A.state asker.old).mine (A.state asker.new).mine first) }
     ensures turned { IfSome result (λ replied. (calls : History)
         × IsTurnedAway origins.now head.now replied.reply replied.is_open calls
-        × Adds (A.mine asker.old) (A.mine asker.new) calls) }
+        × Adds (A.state asker.old).mine (A.state asker.new).mine calls) }
     ensures closed { IfSome result
-        (λ replied. replied.is_open ≡ false → A.saw_close asker.new ≡ true) }
-    ensures seen { A.saw_close asker.old ≡ true → A.saw_close asker.new ≡ true }
-    ensures place { A.place asker.new ≡ A.place asker.old }
+        (λ replied. replied.is_open ≡ false → (A.state asker.new).saw_close ≡ true) }
+    ensures seen { (A.state asker.old).saw_close ≡ true → (A.state asker.new).saw_close ≡ true }
+    ensures place { (A.state asker.new).place ≡ (A.state asker.old).place }
 {
     let origin = listed(origins, &head.origin);
     match first_ask(alloc, routes, head) {

@@ -2,7 +2,8 @@
 ghost use Rattle.std.specs.Prelude.{◌≡◌, ◌≢◌, ◌⊎◌, ℕ, List, [], ◌∷◌, true, false, Some};
 ghost use Rattle.octo_outside.specs.Recorded.{Adds, Rose};
 ghost use Rattle.octo_asks.specs.History.{History};
-ghost use Rattle.octo_outside_doors.specs.Doors.{ConnState, state_of, fresh_conn};
+ghost use Rattle.octo_outside.specs.Conns.{ConnState};
+ghost use Rattle.octo_outside_doors.specs.Doors.{fresh_conn};
 ghost use Rattle.octo_api_worker.specs.declared.at_door.Visit.TheVariants as visit;
 ghost use Rattle.octo_api_worker.specs.Served.{IsServed, AsksOnce};
 ghost use Rattle.octo_api_worker.specs.Worked.{leave_ask, HasVisited, HasLeft, HasReturned, HasWorked, is_open};
@@ -39,14 +40,14 @@ fn look_at_door<D: Door, A: Asker, P: Stager>(
     stager: &mut P,
     terms: &Terms,
 ) -> Visit
-    ensures visited { (inputs : List (List ℕ)) → D.coming door.old ≡ Some inputs
-        → HasVisited terms.now inputs (D.coming door.new) (D.served door.old) (D.served door.new)
-        (A.mine asker.old) (A.mine asker.new) result }
-    ensures once { AsksOnce (A.mine asker.old) (A.mine asker.new) }
-    ensures closed { result ≡ visit.Closed → A.saw_close asker.new ≡ true }
-    ensures place { A.place asker.new ≡ A.place asker.old }
-    ensures held { result ≢ visit.Failed → D.faults door.new ≡ D.faults door.old }
-    ensures failed { result ≡ visit.Failed → Rose (D.faults door.old) (D.faults door.new) }
+    ensures visited { (inputs : List (List ℕ)) → (D.state door.old).coming ≡ Some inputs
+        → HasVisited terms.now inputs (D.state door.new).coming (D.state door.old).served (D.state door.new).served
+        (A.state asker.old).mine (A.state asker.new).mine result }
+    ensures once { AsksOnce (A.state asker.old).mine (A.state asker.new).mine }
+    ensures closed { result ≡ visit.Closed → (A.state asker.new).saw_close ≡ true }
+    ensures place { (A.state asker.new).place ≡ (A.state asker.old).place }
+    ensures held { result ≢ visit.Failed → (D.state door.new).faults ≡ (D.state door.old).faults }
+    ensures failed { result ≡ visit.Failed → Rose (D.state door.old).faults (D.state door.new).faults }
 {
     if asker.closed() {
         return Visit::Closed;
@@ -70,17 +71,17 @@ fn serve_and_finish<D: Door, A: Asker, P: Stager>(
     terms: &Terms,
 ) -> Visit
     ensures served { (input : List ℕ)
-        → state_of D.Conn.left D.Conn.written D.Conn.faults D.Conn.quiets conn ≡ fresh_conn input
+        → D.Conn.state conn ≡ fresh_conn input
         → (after : ConnState) × (calls : History)
         × IsServed terms.now input after (is_open result) calls
-        × Adds (D.served door.old) (D.served door.new) (after ∷ [])
-        × Adds (A.mine asker.old) (A.mine asker.new) calls }
-    ensures once { AsksOnce (A.mine asker.old) (A.mine asker.new) }
+        × Adds (D.state door.old).served (D.state door.new).served (after ∷ [])
+        × Adds (A.state asker.old).mine (A.state asker.new).mine calls }
+    ensures once { AsksOnce (A.state asker.old).mine (A.state asker.new).mine }
     ensures either { (result ≡ visit.Open)
-        ⊎ ((result ≡ visit.Closed) × (A.saw_close asker.new ≡ true)) }
-    ensures place { A.place asker.new ≡ A.place asker.old }
-    ensures coming { D.coming door.new ≡ D.coming door.old }
-    ensures faults { D.faults door.new ≡ D.faults door.old }
+        ⊎ ((result ≡ visit.Closed) × ((A.state asker.new).saw_close ≡ true)) }
+    ensures place { (A.state asker.new).place ≡ (A.state asker.old).place }
+    ensures coming { (D.state door.new).coming ≡ (D.state door.old).coming }
+    ensures faults { (D.state door.new).faults ≡ (D.state door.old).faults }
 {
     let mut conn = conn;
     let is_open = serve_conn(alloc, routes, &mut conn, asker, stager, terms);
@@ -100,9 +101,9 @@ fn leave_ask(alloc: Global) -> Ask
 
 // Says that this worker leaves. The answer doesn't matter; without one the host has ended.
 fn leave<A: Asker>(alloc: Global, asker: &mut A)
-    ensures left { HasLeft (A.mine asker.old) (A.mine asker.new) (A.saw_close asker.new) }
-    ensures seen { A.saw_close asker.old ≡ true → A.saw_close asker.new ≡ true }
-    ensures place { A.place asker.new ≡ A.place asker.old }
+    ensures left { HasLeft (A.state asker.old).mine (A.state asker.new).mine (A.state asker.new).saw_close }
+    ensures seen { (A.state asker.old).saw_close ≡ true → (A.state asker.new).saw_close ≡ true }
+    ensures place { (A.state asker.new).place ≡ (A.state asker.old).place }
 {
     let _ = asker.ask(leave_ask(alloc));
 }
@@ -121,18 +122,18 @@ pub fn worker<R: Wait, D: Door, A: Asker, P: Stager>(
     terms: &Terms,
 ) -> bool
     // The connections of a door that records them are served one after the other.
-    ensures served { (inputs : List (List ℕ)) → D.coming door.old ≡ Some inputs
-        → HasWorked terms.now inputs (D.coming door.new) (D.served door.old) (D.served door.new)
-        (A.mine asker.old) (A.mine asker.new) (A.saw_close asker.new) result }
-    ensures place { A.place asker.new ≡ A.place asker.old }
+    ensures served { (inputs : List (List ℕ)) → (D.state door.old).coming ≡ Some inputs
+        → HasWorked terms.now inputs (D.state door.new).coming (D.state door.old).served (D.state door.new).served
+        (A.state asker.old).mine (A.state asker.new).mine (A.state asker.new).saw_close result }
+    ensures place { (A.state asker.new).place ≡ (A.state asker.old).place }
 
     // Whatever its door records, it has left or has seen that the host has ended.
-    ensures returned { HasReturned (A.mine asker.old) (A.mine asker.new)
-        (A.saw_close asker.new) }
+    ensures returned { HasReturned (A.state asker.old).mine (A.state asker.new).mine
+        (A.state asker.new).saw_close }
 
     // It returns false exactly if a call of the door failed.
-    ensures held { result ≡ true → D.faults door.new ≡ D.faults door.old }
-    ensures failed { result ≡ false → Rose (D.faults door.old) (D.faults door.new) }
+    ensures held { result ≡ true → (D.state door.new).faults ≡ (D.state door.old).faults }
+    ensures failed { result ≡ false → Rose (D.state door.old).faults (D.state door.new).faults }
 {
     for _ in rt.forever() {
         match look_at_door(alloc, routes, door, asker, stager, terms) {

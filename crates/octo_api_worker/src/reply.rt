@@ -62,11 +62,11 @@ fn reply_to_ask<A: Asker, P: Stager>(
     ensures replied { (origins : List (List ℕ)) → (message : Message)
         → shown ≡ shown_of message.path → origin.now ≡ listed origins message.origin
         → IsOfApi message → MessageReadsAs message (Ok ask) → IsCallers ask.request
-        → (calls : History) × Adds (A.mine asker.old) (A.mine asker.new) calls
+        → (calls : History) × Adds (A.state asker.old).mine (A.state asker.new).mine calls
         × IsReplied origins message result.reply result.is_open calls }
-    ensures closed { result.is_open ≡ false → A.saw_close asker.new ≡ true }
-    ensures seen { A.saw_close asker.old ≡ true → A.saw_close asker.new ≡ true }
-    ensures place { A.place asker.new ≡ A.place asker.old }
+    ensures closed { result.is_open ≡ false → (A.state asker.new).saw_close ≡ true }
+    ensures seen { (A.state asker.old).saw_close ≡ true → (A.state asker.new).saw_close ≡ true }
+    ensures place { (A.state asker.new).place ≡ (A.state asker.old).place }
 {
     match ask_staged(alloc, asker, stager, ask) {
         Ok(answer) => Replied {
@@ -99,11 +99,11 @@ fn reply_to_shown<A: Asker, P: Stager>(
 ) -> Replied
     ensures replied { (origins : List (List ℕ)) → shown ≡ shown_of message.path
         → origin.now ≡ listed origins message.origin → IsOfApi message → (calls : History)
-        × Adds (A.mine asker.old) (A.mine asker.new) calls
+        × Adds (A.state asker.old).mine (A.state asker.new).mine calls
         × IsReplied origins message result.reply result.is_open calls }
-    ensures closed { result.is_open ≡ false → A.saw_close asker.new ≡ true }
-    ensures seen { A.saw_close asker.old ≡ true → A.saw_close asker.new ≡ true }
-    ensures place { A.place asker.new ≡ A.place asker.old }
+    ensures closed { result.is_open ≡ false → (A.state asker.new).saw_close ≡ true }
+    ensures seen { (A.state asker.old).saw_close ≡ true → (A.state asker.new).saw_close ≡ true }
+    ensures place { (A.state asker.new).place ≡ (A.state asker.old).place }
 {
     match request_by(alloc, routes, message) {
         Ok(ask) => reply_to_ask(alloc, asker, stager, shown, origin, ask),
@@ -134,11 +134,11 @@ fn reply_to_request<A: Asker, P: Stager>(
     message: Message,
 ) -> Replied
     ensures replied { IsOfApi message → (calls : History)
-        × Adds (A.mine asker.old) (A.mine asker.new) calls
+        × Adds (A.state asker.old).mine (A.state asker.new).mine calls
         × IsReplied origins.now message result.reply result.is_open calls }
-    ensures closed { result.is_open ≡ false → A.saw_close asker.new ≡ true }
-    ensures seen { A.saw_close asker.old ≡ true → A.saw_close asker.new ≡ true }
-    ensures place { A.place asker.new ≡ A.place asker.old }
+    ensures closed { result.is_open ≡ false → (A.state asker.new).saw_close ≡ true }
+    ensures seen { (A.state asker.old).saw_close ≡ true → (A.state asker.new).saw_close ≡ true }
+    ensures place { (A.state asker.new).place ≡ (A.state asker.old).place }
 {
     let origin = listed(origins, &message.origin);
     match shown_for(alloc, routes, &message) {
@@ -169,11 +169,11 @@ pub(crate) fn reply_to_message<A: Asker, P: Stager>(
     stager: &mut P,
     message: Message,
 ) -> Replied
-    ensures replied { (calls : History) × Adds (A.mine asker.old) (A.mine asker.new) calls
+    ensures replied { (calls : History) × Adds (A.state asker.old).mine (A.state asker.new).mine calls
         × IsReplied origins.now message result.reply result.is_open calls }
-    ensures closed { result.is_open ≡ false → A.saw_close asker.new ≡ true }
-    ensures seen { A.saw_close asker.old ≡ true → A.saw_close asker.new ≡ true }
-    ensures place { A.place asker.new ≡ A.place asker.old }
+    ensures closed { result.is_open ≡ false → (A.state asker.new).saw_close ≡ true }
+    ensures seen { (A.state asker.old).saw_close ≡ true → (A.state asker.new).saw_close ≡ true }
+    ensures place { (A.state asker.new).place ≡ (A.state asker.old).place }
 {
     match page_for(&message) {
         Some(page) => Replied {

@@ -1,7 +1,6 @@
 //! One connection: a message, and its reply.
 ghost use Rattle.std.specs.Prelude.{◌≡◌, ◌≤◌, ◌++◌, ℕ, List, true, false};
 ghost use Rattle.octo_outside.specs.Recorded.{Adds};
-ghost use Rattle.octo_outside_doors.specs.Doors.{state_of};
 ghost use Rattle.octo_http.specs.Reply.{with_fields, reply_head, reply_bytes};
 ghost use Rattle.octo_asks.specs.History.{History};
 ghost use Rattle.octo_api_worker.specs.Served.{Sends, Admits, IsServed, HasBegun, HasServed, AsksForMessage, AsksOnce, AreFaultBytes, is_head, worker_bytes};
@@ -23,12 +22,12 @@ use std::alloc::Global;
 
 // Writes a reply with more fields, and ignores a failure: the connection counts it, and nobody is left who could be answered.
 fn write_reply_or_ignore<C: Conn>(conn: &mut C, reply: &HttpReply, more: &FieldLines)
-    ensures written { Sends (C.written conn.old) (C.written conn.new)
-        (C.faults conn.old) (C.faults conn.new)
+    ensures written { Sends (C.state conn.old).written (C.state conn.new).written
+        (C.state conn.old).faults (C.state conn.new).faults
         (reply_bytes (with_fields more.now.items reply.now)) }
-    ensures left { C.left conn.new ≡ C.left conn.old }
-    ensures quiets { C.quiets conn.new ≡ C.quiets conn.old }
-    ensures counted { C.faults conn.old ≤ C.faults conn.new }
+    ensures left { (C.state conn.new).left ≡ (C.state conn.old).left }
+    ensures quiets { (C.state conn.new).quiets ≡ (C.state conn.old).quiets }
+    ensures counted { (C.state conn.old).faults ≤ (C.state conn.new).faults }
 {
     match write_reply(conn, reply, more) {
         Ok(()) | Err(Failed) => {}
@@ -37,12 +36,12 @@ fn write_reply_or_ignore<C: Conn>(conn: &mut C, reply: &HttpReply, more: &FieldL
 
 // Writes a reply with more fields and without its body, and ignores a failure too.
 fn write_head_or_ignore<C: Conn>(conn: &mut C, reply: &HttpReply, more: &FieldLines)
-    ensures written { Sends (C.written conn.old) (C.written conn.new)
-        (C.faults conn.old) (C.faults conn.new)
+    ensures written { Sends (C.state conn.old).written (C.state conn.new).written
+        (C.state conn.old).faults (C.state conn.new).faults
         (reply_head (with_fields more.now.items reply.now)) }
-    ensures left { C.left conn.new ≡ C.left conn.old }
-    ensures quiets { C.quiets conn.new ≡ C.quiets conn.old }
-    ensures counted { C.faults conn.old ≤ C.faults conn.new }
+    ensures left { (C.state conn.new).left ≡ (C.state conn.old).left }
+    ensures quiets { (C.state conn.new).quiets ≡ (C.state conn.old).quiets }
+    ensures counted { (C.state conn.old).faults ≤ (C.state conn.new).faults }
 {
     match write_head(conn, reply, more) {
         Ok(()) | Err(Failed) => {}
@@ -51,11 +50,11 @@ fn write_head_or_ignore<C: Conn>(conn: &mut C, reply: &HttpReply, more: &FieldLi
 
 // Writes bytes, and ignores a failure too.
 fn send_or_ignore<C: Conn>(conn: &mut C, bytes: &[u8])
-    ensures written { Sends (C.written conn.old) (C.written conn.new)
-        (C.faults conn.old) (C.faults conn.new) bytes.now }
-    ensures left { C.left conn.new ≡ C.left conn.old }
-    ensures quiets { C.quiets conn.new ≡ C.quiets conn.old }
-    ensures counted { C.faults conn.old ≤ C.faults conn.new }
+    ensures written { Sends (C.state conn.old).written (C.state conn.new).written
+        (C.state conn.old).faults (C.state conn.new).faults bytes.now }
+    ensures left { (C.state conn.new).left ≡ (C.state conn.old).left }
+    ensures quiets { (C.state conn.new).quiets ≡ (C.state conn.old).quiets }
+    ensures counted { (C.state conn.old).faults ≤ (C.state conn.new).faults }
 {
     match send_all(conn, bytes) {
         Ok(()) | Err(Failed) => {}
@@ -71,11 +70,11 @@ fn is_head(method: &Method) -> bool
 
 // Writes the reply of the REST API.
 fn write_api_reply<C: Conn>(conn: &mut C, reply: &HttpReply, more: &FieldLines, head_alone: bool)
-    ensures written { Sends (C.written conn.old) (C.written conn.new) (C.faults conn.old)
-        (C.faults conn.new) (worker_bytes head_alone (WorkerReply.Api reply.now more.now)) }
-    ensures left { C.left conn.new ≡ C.left conn.old }
-    ensures quiets { C.quiets conn.new ≡ C.quiets conn.old }
-    ensures counted { C.faults conn.old ≤ C.faults conn.new }
+    ensures written { Sends (C.state conn.old).written (C.state conn.new).written (C.state conn.old).faults
+        (C.state conn.new).faults (worker_bytes head_alone (WorkerReply.Api reply.now more.now)) }
+    ensures left { (C.state conn.new).left ≡ (C.state conn.old).left }
+    ensures quiets { (C.state conn.new).quiets ≡ (C.state conn.old).quiets }
+    ensures counted { (C.state conn.old).faults ≤ (C.state conn.new).faults }
 {
     if head_alone {
         write_head_or_ignore(conn, reply, more);
@@ -86,11 +85,11 @@ fn write_api_reply<C: Conn>(conn: &mut C, reply: &HttpReply, more: &FieldLines, 
 
 // Writes the reply to a message, without the body if its head alone is asked for.
 fn write_worker_reply<C: Conn>(conn: &mut C, reply: &WorkerReply, head_alone: bool)
-    ensures written { Sends (C.written conn.old) (C.written conn.new)
-        (C.faults conn.old) (C.faults conn.new) (worker_bytes head_alone reply.now) }
-    ensures left { C.left conn.new ≡ C.left conn.old }
-    ensures quiets { C.quiets conn.new ≡ C.quiets conn.old }
-    ensures counted { C.faults conn.old ≤ C.faults conn.new }
+    ensures written { Sends (C.state conn.old).written (C.state conn.new).written
+        (C.state conn.old).faults (C.state conn.new).faults (worker_bytes head_alone reply.now) }
+    ensures left { (C.state conn.new).left ≡ (C.state conn.old).left }
+    ensures quiets { (C.state conn.new).quiets ≡ (C.state conn.old).quiets }
+    ensures counted { (C.state conn.old).faults ≤ (C.state conn.new).faults }
 {
     match reply {
         WorkerReply::Page { page } => send_or_ignore(conn, page_bytes(*page)),
@@ -101,11 +100,11 @@ fn write_worker_reply<C: Conn>(conn: &mut C, reply: &WorkerReply, head_alone: bo
 // Writes the reply to a fault, if the peer is still there.
 fn refuse<C: Conn>(alloc: Global, conn: &mut C, fault: &MessageFault)
     ensures written { (bytes : List ℕ) × AreFaultBytes fault.now bytes
-        × Sends (C.written conn.old) (C.written conn.new)
-        (C.faults conn.old) (C.faults conn.new) bytes }
-    ensures left { C.left conn.new ≡ C.left conn.old }
-    ensures quiets { C.quiets conn.new ≡ C.quiets conn.old }
-    ensures counted { C.faults conn.old ≤ C.faults conn.new }
+        × Sends (C.state conn.old).written (C.state conn.new).written
+        (C.state conn.old).faults (C.state conn.new).faults bytes }
+    ensures left { (C.state conn.new).left ≡ (C.state conn.old).left }
+    ensures quiets { (C.state conn.new).quiets ≡ (C.state conn.old).quiets }
+    ensures counted { (C.state conn.old).faults ≤ (C.state conn.new).faults }
 {
     match fault_bytes(alloc, fault) {
         Some(reply) => write_reply_or_ignore(conn, &reply, &FieldLines::new()),
@@ -124,15 +123,15 @@ fn serve_rest<C: Conn, A: Asker, P: Stager>(
     begun: Begun,
 ) -> bool
     ensures served { (input : List ℕ) → (first : History)
-        → HasBegun terms.now input (state_of C.left C.written C.faults C.quiets conn.old) begun
+        → HasBegun terms.now input (C.state conn.old) begun
         → Admits begun.head first
-        → (calls : History) × Adds (A.mine asker.old) (A.mine asker.new) calls
-        × IsServed terms.now input (state_of C.left C.written C.faults C.quiets conn.new) result
+        → (calls : History) × Adds (A.state asker.old).mine (A.state asker.new).mine calls
+        × IsServed terms.now input (C.state conn.new) result
         (first ++ calls) }
-    ensures once { AsksForMessage (A.mine asker.old) (A.mine asker.new) }
-    ensures closed { result ≡ false → A.saw_close asker.new ≡ true }
-    ensures seen { A.saw_close asker.old ≡ true → A.saw_close asker.new ≡ true }
-    ensures place { A.place asker.new ≡ A.place asker.old }
+    ensures once { AsksForMessage (A.state asker.old).mine (A.state asker.new).mine }
+    ensures closed { result ≡ false → (A.state asker.new).saw_close ≡ true }
+    ensures seen { (A.state asker.old).saw_close ≡ true → (A.state asker.new).saw_close ≡ true }
+    ensures place { (A.state asker.new).place ≡ (A.state asker.old).place }
 {
     match read_rest(alloc, conn, begun) {
         Ok(message) => {
@@ -159,14 +158,14 @@ fn serve_begun<C: Conn, A: Asker, P: Stager>(
     begun: Begun,
 ) -> bool
     ensures served { (input : List ℕ)
-        → HasBegun terms.now input (state_of C.left C.written C.faults C.quiets conn.old) begun
-        → (calls : History) × Adds (A.mine asker.old) (A.mine asker.new) calls
-        × IsServed terms.now input (state_of C.left C.written C.faults C.quiets conn.new) result
+        → HasBegun terms.now input (C.state conn.old) begun
+        → (calls : History) × Adds (A.state asker.old).mine (A.state asker.new).mine calls
+        × IsServed terms.now input (C.state conn.new) result
         calls }
-    ensures once { AsksOnce (A.mine asker.old) (A.mine asker.new) }
-    ensures closed { result ≡ false → A.saw_close asker.new ≡ true }
-    ensures seen { A.saw_close asker.old ≡ true → A.saw_close asker.new ≡ true }
-    ensures place { A.place asker.new ≡ A.place asker.old }
+    ensures once { AsksOnce (A.state asker.old).mine (A.state asker.new).mine }
+    ensures closed { result ≡ false → (A.state asker.new).saw_close ≡ true }
+    ensures seen { (A.state asker.old).saw_close ≡ true → (A.state asker.new).saw_close ≡ true }
+    ensures place { (A.state asker.new).place ≡ (A.state asker.old).place }
 {
     match turn_away(alloc, routes, &terms.origins, asker, &begun.head) {
         Some(replied) => {
@@ -193,18 +192,18 @@ pub fn serve_conn<C: Conn, A: Asker, P: Stager>(
     stager: &mut P,
     terms: &Terms,
 ) -> bool
-    ensures served { HasServed terms.now (state_of C.left C.written C.faults C.quiets conn.old)
-        (state_of C.left C.written C.faults C.quiets conn.new)
-        (A.mine asker.old) (A.mine asker.new) result }
+    ensures served { HasServed terms.now (C.state conn.old)
+        (C.state conn.new)
+        (A.state asker.old).mine (A.state asker.new).mine result }
 
     // Whatever the connection records, it leads to at most one call, of a caller's request, after at most one that asks whom
     // the key names.
-    ensures once { AsksOnce (A.mine asker.old) (A.mine asker.new) }
+    ensures once { AsksOnce (A.state asker.old).mine (A.state asker.new).mine }
 
     // Only a host that has ended is seen to have, and what was seen stays.
-    ensures closed { result ≡ false → A.saw_close asker.new ≡ true }
-    ensures seen { A.saw_close asker.old ≡ true → A.saw_close asker.new ≡ true }
-    ensures place { A.place asker.new ≡ A.place asker.old }
+    ensures closed { result ≡ false → (A.state asker.new).saw_close ≡ true }
+    ensures seen { (A.state asker.old).saw_close ≡ true → (A.state asker.new).saw_close ≡ true }
+    ensures place { (A.state asker.new).place ≡ (A.state asker.old).place }
 {
     match read_begin(alloc, conn, terms.patience) {
         Ok(begun) => serve_begun(alloc, routes, conn, asker, stager, terms, begun),

@@ -44,12 +44,12 @@ pub(crate) fn ask_staged<A: Asker, P: Stager>(
     ask: Ask,
 ) -> Result<Answer, Closed>
     ensures ok { IfOk result
-        (λ answer. Finishes ask answer (A.mine asker.old) (A.mine asker.new)) }
-    ensures err { OnErr result (A.mine asker.new ≡ A.mine asker.old) }
-    ensures place { A.place asker.new ≡ A.place asker.old }
+        (λ answer. Finishes ask answer (A.state asker.old).mine (A.state asker.new).mine) }
+    ensures err { OnErr result ((A.state asker.new).mine ≡ (A.state asker.old).mine) }
+    ensures place { (A.state asker.new).place ≡ (A.state asker.old).place }
 
-    ensures closed { OnErr result (A.saw_close asker.new ≡ true) }
-    ensures seen { A.saw_close asker.old ≡ true → A.saw_close asker.new ≡ true }
+    ensures closed { OnErr result ((A.state asker.new).saw_close ≡ true) }
+    ensures seen { (A.state asker.old).saw_close ≡ true → (A.state asker.new).saw_close ≡ true }
 {
     let mut ask = ask;
     prepare(alloc, stager, &mut ask.request);

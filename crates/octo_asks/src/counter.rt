@@ -20,72 +20,40 @@ pub enum Next {
 
 /// Where asks come from and answers go to. It keeps the history of a host.
 pub trait Counter {
-    ghost use Rattle.std.specs.Prelude.{◌≡◌, Bool, true, false, [], ◌∷◌, Option, None, IfSome};
-    ghost use Rattle.octo_outside.specs.Recorded.{Adds};
-    ghost use Rattle.octo_asks.specs.declared.counter.Given.{Given};
+    ghost use Rattle.std.specs.Prelude.{◌≡◌, false, None};
+    ghost use Rattle.octo_asks.specs.Calls.{CounterState, GivesNext, Answers, Notes, Closes};
     ghost use Rattle.octo_asks.specs.declared.entry.Entry.TheVariants as entry;
-    ghost use Rattle.octo_asks.specs.History.{History, IsGiven, ask_given, own_call};
-    ghost use Rattle.octo_asks.specs.Place.{Place};
+    ghost use Rattle.octo_asks.specs.History.{IsGiven, own_call};
 
-    /// Its table and seat, which stay.
-    ghost place: { Self → Place };
-
-    /// The history, if it is recorded: `None` once an entry was lost.
-    ghost past: { Self → Option History };
-
-    /// The ask that was given out and isn't answered.
-    ghost given: { Self → Option Given };
-
-    /// Whether the host has ended.
-    ghost closed: { Self → Bool };
+    /// What it says of itself: its table and seat, which stay, the history, `None` once an entry was lost, the ask that was given out
+    /// and isn't answered, and whether the host has ended.
+    ghost state: { Self → CounterState };
 
     /// The next ask, which is given out, or nothing. Every earlier one was answered.
     fn next(&mut self) -> Next
-        requires answered { given self.old ≡ None }
-        requires open { closed self.old ≡ false }
-
-        ensures past { past self.new ≡ past self.old }
-        ensures given { given self.new ≡ ask_given result }
-        ensures open { closed self.new ≡ false }
-        ensures place { place self.new ≡ place self.old };
+        requires answered { (state self.old).given ≡ None }
+        requires open { (state self.old).closed ≡ false }
+        ensures { GivesNext (state self.old) result (state self.new) };
 
     /// Answers the ask that was given out, at a moment in milliseconds.
     fn answer(&mut self, worker: u8, moment: u64, answer: Answer)
-        requires given { IsGiven worker (given self.old) }
-        requires open { closed self.old ≡ false }
-
-        ensures past { IfSome (given self.old)
-            (λ one. Adds (past self.old) (past self.new)
-            (entry.Call worker one.ask moment answer ∷ [])) }
-        ensures given { given self.new ≡ None }
-        ensures open { closed self.new ≡ false }
-        ensures place { place self.new ≡ place self.old };
+        requires given { IsGiven worker (state self.old).given }
+        requires open { (state self.old).closed ≡ false }
+        ensures { Answers (state self.old) worker moment answer (state self.new) };
 
     /// Adds what the host answered to its own ask, at a moment in milliseconds.
     fn own(&mut self, moment: u64, answer: Answer)
-        requires open { closed self.old ≡ false }
-
-        ensures past { Adds (past self.old) (past self.new) (own_call moment answer ∷ []) }
-        ensures given { given self.new ≡ given self.old }
-        ensures open { closed self.new ≡ false }
-        ensures place { place self.new ≡ place self.old };
+        requires open { (state self.old).closed ≡ false }
+        ensures { Notes (state self.old) (own_call moment answer) (state self.new) };
 
     /// Adds what a turn of the link did.
     fn note(&mut self, note: Note)
-        requires open { closed self.old ≡ false }
-
-        ensures past { Adds (past self.old) (past self.new) (entry.Note note ∷ []) }
-        ensures given { given self.new ≡ given self.old }
-        ensures open { closed self.new ≡ false }
-        ensures place { place self.new ≡ place self.old };
+        requires open { (state self.old).closed ≡ false }
+        ensures { Notes (state self.old) (entry.Note note) (state self.new) };
 
     /// The host ends. Every ask was answered.
     fn close(&mut self)
-        requires answered { given self.old ≡ None }
-        requires open { closed self.old ≡ false }
-
-        ensures past { Adds (past self.old) (past self.new) (entry.Close ∷ []) }
-        ensures given { given self.new ≡ None }
-        ensures closed { closed self.new ≡ true }
-        ensures place { place self.new ≡ place self.old };
+        requires answered { (state self.old).given ≡ None }
+        requires open { (state self.old).closed ≡ false }
+        ensures { Closes (state self.old) (state self.new) };
 }

@@ -100,13 +100,12 @@ impl Counter for MemoryCounter {
     ghost use Rattle.octo_asks.specs.Memory.{next_of};
     ghost use Rattle.octo_asks.specs.Place.{no_place};
 
-    ghost place = { λ _. no_place };
-
-    ghost past = { λ c. c.past };
-
-    ghost given = { λ c. c.given };
-
-    ghost closed = { λ c. c.closed };
+    ghost state = { λ c. record {
+      place = no_place;
+      past = c.past;
+      given = c.given;
+      closed = c.closed;
+    } };
 
     fn next(&mut self) -> Next
         requires answered { self.old.given ≡ None }

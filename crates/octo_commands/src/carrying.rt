@@ -6,7 +6,6 @@ ghost use Rattle.octo_words.specs.Words.{IsInRange, command_of};
 ghost use Rattle.octo_files.specs.Status.{code_of};
 ghost use Rattle.octo_files.specs.declared.report.Report.TheVariants as report;
 ghost use Rattle.octo_commands_print.specs.Printing.{seen_of, uses_link};
-ghost use Rattle.octo_serve.specs.Around.{link_state, keeper_state, shelf_state, door_state};
 ghost use Rattle.octo_serve_command.specs.Hosting.{around};
 ghost use Rattle.octo_serve_command.specs.Reports.{host_code};
 ghost use Rattle.octo_commands.specs.Commands.{Comes, HasCauses, HasPlainCauses, HasWaitedFor, IsCheck, Reports, SessionsSuit, hosted_by};
@@ -81,26 +80,26 @@ fn carry_out<F: Source, L: Link, T: Clock>(
     link: &mut L,
     clock: &mut T,
 ) -> Report
-    requires down { L.up link.old ≡ false }
-    requires suits { SessionsSuit (F.files files.old) (L.past link.old) (L.kind link.old).oks
+    requires down { (L.state link.old).up ≡ false }
+    requires suits { SessionsSuit (F.files files.old) (L.state link.old).past (L.state link.old).kind.oks
         command.now }
     requires range { IsInRange command.now }
     requires plain { hosted_by command.now ≡ None }
     requires no_floor { floor_asked command.now ≡ None }
-    ensures reports { Reports (L.kind link.old) (F.files files.old)
-        (seen_of (L.past link.old) (L.past link.new)
-        (L.faults link.old) (L.faults link.new) (T.moment clock.new)) command.now result }
+    ensures reports { Reports (L.state link.old).kind (F.files files.old)
+        (seen_of (L.state link.old).past (L.state link.new).past
+        (L.state link.old).faults (L.state link.new).faults (T.moment clock.new)) command.now result }
     ensures causes { HasPlainCauses (F.faults files.old) (F.faults files.new)
-        (L.faults link.old) (L.faults link.new) (L.calls link.old) (L.calls link.new) result }
+        (L.state link.old).faults (L.state link.new).faults (L.state link.old).calls (L.state link.new).calls result }
     ensures waited { HasWaitedFor (F.files files.old) (T.moment clock.old) (T.moment clock.new)
         command.now result }
     ensures output { code_of result ≢ 8 }
-    ensures down { L.up link.new ≡ false }
-    ensures kind { L.kind link.new ≡ L.kind link.old }
-    ensures recorded { is_some (L.past link.new) ≡ is_some (L.past link.old) }
+    ensures down { (L.state link.new).up ≡ false }
+    ensures kind { (L.state link.new).kind ≡ (L.state link.old).kind }
+    ensures recorded { is_some (L.state link.new).past ≡ is_some (L.state link.old).past }
     ensures files { F.files files.new ≡ F.files files.old }
     ensures counted { F.faults files.old ≤ F.faults files.new }
-    ensures link_counted { L.faults link.old ≤ L.faults link.new }
+    ensures link_counted { (L.state link.old).faults ≤ (L.state link.new).faults }
     ensures untouched { uses_link result ≡ false
         → (link.new ≡ link.old) × (clock.new ≡ clock.old) }
 {
@@ -158,29 +157,29 @@ pub(crate) fn run<
     doors: &mut Doors<D>,
     log: G,
 ) -> HostEnd
-    requires down { L.up link.old ≡ false }
-    requires suits { SessionsSuit (F.files files.old) (L.past link.old) (L.kind link.old).oks
+    requires down { (L.state link.old).up ≡ false }
+    requires suits { SessionsSuit (F.files files.old) (L.state link.old).past (L.state link.old).kind.oks
         command.now }
     requires range { IsInRange command.now }
     requires no_floor { floor_asked command.now ≡ None }
-    ensures comes { let at = around (link_state L.kind L.past L.calls L.up L.faults) T.moment
-        (keeper_state K.tables K.faults) (shelf_state S.files S.faults)
-        (door_state D.coming D.served D.faults) in
+    ensures comes { let at = around (L.state) T.moment
+        (K.state) (S.state)
+        (D.state) in
         (words : List (List ℕ)) → command_of words ≡ Some command.now
         → Comes words (F.files files.old)
         (at link.old clock.old keeper.old shelf.old doors.old)
         (at link.new clock.new keeper.new shelf.new doors.new)
         result.report result.history }
-    ensures causes { let at = around (link_state L.kind L.past L.calls L.up L.faults) T.moment
-        (keeper_state K.tables K.faults) (shelf_state S.files S.faults)
-        (door_state D.coming D.served D.faults) in
+    ensures causes { let at = around (L.state) T.moment
+        (K.state) (S.state)
+        (D.state) in
         HasCauses (F.faults files.old) (F.faults files.new)
         (at link.old clock.old keeper.old shelf.old doors.old)
         (at link.new clock.new keeper.new shelf.new doors.new) result.report }
     ensures output { host_code result.report ≢ 8 }
-    ensures down { L.up link.new ≡ false }
-    ensures kind { L.kind link.new ≡ L.kind link.old }
-    ensures recorded { is_some (L.past link.new) ≡ is_some (L.past link.old) }
+    ensures down { (L.state link.new).up ≡ false }
+    ensures kind { (L.state link.new).kind ≡ (L.state link.old).kind }
+    ensures recorded { is_some (L.state link.new).past ≡ is_some (L.state link.old).past }
     ensures files { F.files files.new ≡ F.files files.old }
     ensures counted { F.faults files.old ≤ F.faults files.new }
 {

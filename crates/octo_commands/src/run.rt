@@ -9,9 +9,8 @@ ghost use Rattle.octo_floor_command.specs.Links.{EachLink};
 ghost use Rattle.octo_floor_command.specs.Reports.{floor_report_code};
 ghost use Rattle.octo_floor_command.specs.Settings.{HaveFloorSettings};
 ghost use Rattle.octo_floor_command.specs.declared.report.FloorReport.{FloorReport};
-ghost use Rattle.octo_floor_settings.specs.declared.floor.FloorSettings.{FloorSettings};
-ghost use Rattle.octo_floor_step.specs.Objects.{link_state as floor_link_state, store_state};
-ghost use Rattle.octo_serve.specs.Around.{link_state, keeper_state, shelf_state, door_state};
+ghost use Rattle.octo_settings.specs.declared.floor.FloorSettings.{FloorSettings};
+ghost use Rattle.octo_floor_step.specs.Objects.{store_state};
 ghost use Rattle.octo_serve_command.specs.Hosting.{around};
 ghost use Rattle.octo_serve_command.specs.Reports.{host_code};
 ghost use Rattle.octo_serve_command.specs.declared.report.HostReport.{HostReport};
@@ -148,19 +147,19 @@ pub fn octo<
     log: G,
     links: &mut Links<L>,
 ) -> Status
-    requires down { L.up link.old ≡ false }
-    requires suits { AskedSuits words.now (F.files files.old) (L.past link.old)
-        (L.kind link.old).oks }
-    requires links_down { EachLink (λ l. L.up l ≡ false) links.old }
+    requires down { (L.state link.old).up ≡ false }
+    requires suits { AskedSuits words.now (F.files files.old) (L.state link.old).past
+        (L.state link.old).kind.oks }
+    requires links_down { EachLink (λ l. (L.state l).up ≡ false) links.old }
     requires links_suit { (asked : List ℕ × ℕ) → floor_in_words words.now ≡ Some asked
         → (s : FloorSettings) → HaveFloorSettings (F.files files.old) asked.0 (Ok s)
-        → EachLink (λ l. SuitsAs s.settings.numbered_oks (L.past l) (L.kind l).oks) links.old }
+        → EachLink (λ l. SuitsAs s.settings.numbered_oks (L.state l).past (L.state l).kind.oks) links.old }
 
     // Arguments that ask for no floor come to a report `r`, and each failure in it has its cause. It is written, or the output
     // failed. `at` is what link, clock, keeper, shelf and doors show.
-    ensures comes { let at = around (link_state L.kind L.past L.calls L.up L.faults) T.moment
-        (keeper_state K.tables K.faults) (shelf_state S.files S.faults)
-        (door_state D.coming D.served D.faults) in
+    ensures comes { let at = around (L.state) T.moment
+        (K.state) (S.state)
+        (D.state) in
         floor_in_words words.now ≡ None
         → (r : HostReport) × Comes words.now (F.files files.old)
         (at link.old clock.old keeper.old shelf.old doors.old)
@@ -174,35 +173,33 @@ pub fn octo<
 
     // Those that ask for a floor come to one, as theorem Floor says of its printers, links, tables and files, or to a report before.
     // `at` is what links, keeper and shelf show.
-    ensures floors { let state = floor_link_state L.kind L.past L.calls L.up L.faults in
-        let store = store_state K.tables K.faults S.files S.faults in
-        (asked : List ℕ × ℕ) → floor_in_words words.now ≡ Some asked
+    ensures floors { (asked : List ℕ × ℕ) → floor_in_words words.now ≡ Some asked
         → (r : FloorReport) × FloorComes (F.files files.old) asked
-        (around_floor (link_states state links.old) (store keeper.old shelf.old))
-        (around_floor (link_states state links.new) (store keeper.new shelf.new)) r result.floor
+        (around_floor (link_states L.state links.old) (store_state (K.state keeper.old) (S.state shelf.old)))
+        (around_floor (link_states L.state links.new) (store_state (K.state keeper.new) (S.state shelf.new))) r result.floor
         × HasAllFloorCauses (F.faults files.old) (F.faults files.new)
-        (around_floor (link_states state links.old) (store keeper.old shelf.old))
-        (around_floor (link_states state links.new) (store keeper.new shelf.new)) r
+        (around_floor (link_states L.state links.old) (store_state (K.state keeper.old) (S.state shelf.old)))
+        (around_floor (link_states L.state links.new) (store_state (K.state keeper.new) (S.state shelf.new))) r
         × IsFloorWritten r result.code (O.written out.old) (O.written out.new) }
     ensures floor_alone { (asked : List ℕ × ℕ) → floor_in_words words.now ≡ Some asked
         → (link.new ≡ link.old) × (doors.new ≡ doors.old) × (result.history ≡ None) }
 
     // Over a prompt link a print that counts `ok`s, with 32 turns more than its plan has lines, is done, or memory runs out.
-    ensures prompt { HasEnough words.now (L.kind link.old) (F.files files.old)
-        (seen_of (L.past link.old) (L.past link.new)
-        (L.faults link.old) (L.faults link.new) (T.moment clock.new))
+    ensures prompt { HasEnough words.now (L.state link.old).kind (F.files files.old)
+        (seen_of (L.state link.old).past (L.state link.new).past
+        (L.state link.old).faults (L.state link.new).faults (T.moment clock.new))
         → Steady (F.faults files.old) (F.faults files.new)
         → Steady (O.faults out.old) (O.faults out.new) → (result.code ≡ 0) ⊎ (result.code ≡ 11) }
 
     // The link is down again.
-    ensures down { L.up link.new ≡ false }
+    ensures down { (L.state link.new).up ≡ false }
 
     // What stays, and counts.
-    ensures kind { L.kind link.new ≡ L.kind link.old }
-    ensures recorded { is_some (L.past link.new) ≡ is_some (L.past link.old) }
+    ensures kind { (L.state link.new).kind ≡ (L.state link.old).kind }
+    ensures recorded { is_some (L.state link.new).past ≡ is_some (L.state link.old).past }
     ensures files { F.files files.new ≡ F.files files.old }
     ensures source_counted { F.faults files.old ≤ F.faults files.new }
-    ensures link_counted { L.faults link.old ≤ L.faults link.new }
+    ensures link_counted { (L.state link.old).faults ≤ (L.state link.new).faults }
     ensures sink { Counts (result.code ≡ 8) (O.faults out.old) (O.faults out.new) }
 {
     let command = match read_words(alloc, words) {

@@ -4,12 +4,9 @@ ghost use Rattle.std.specs.Option.{option_map};
 ghost use Rattle.octo_outside.specs.Recorded.{Counts};
 ghost use Rattle.gcode_lines.specs.Job.{JobData};
 ghost use Rattle.temp_rules.specs.Hot.{first_hot_of};
-ghost use Rattle.job_desk.specs.Data.{new_desk};
-ghost use Rattle.send_window.specs.Data.{new_sender};
 ghost use Rattle.send_window.specs.declared.session_end.SessionEnd.TheVariants.{NoAnswer};
 ghost use Rattle.printer_link.specs.Link.{RoseBy};
 ghost use Rattle.printer_link.specs.Suits.{SuitsAs};
-ghost use Rattle.octo_session_print.specs.Ends.{IsNew};
 ghost use Rattle.octo_session_print.specs.Waiting.{HasWaited};
 ghost use Rattle.octo_session_print.specs.declared.end.PrintEnd.TheVariants as end;
 ghost use Rattle.octo_settings.specs.Sound.{IsSettings};
@@ -19,38 +16,13 @@ ghost use Rattle.octo_commands_print.specs.Printing.{IsFilePrint, IsRefused, IsR
 
 use byte_text::Name;
 use gcode_lines::Job;
-use job_desk::Desk;
 use octo_files::{Report, read_job, read_settings_of};
 use octo_outside::{Clock, Source};
-use octo_session::Session;
 use octo_session_print::{PrintEnd, run_print};
 use octo_settings::Settings;
 use printer_link::Link;
-use send_window::Sender;
 use std::alloc::{AllocError, Global};
 use temp_rules::HotLine;
-
-/// A session that sends and keeps its limits as the settings say. Fails if out of memory.
-pub fn session_of(alloc: Global, settings: Settings) -> Result<Session, AllocError>
-    requires { IsSettings settings }
-    ensures new { IfOk result IsNew }
-    ensures desk { IfOk result
-        (λ s. s.desk ≡ new_desk settings.scripts settings.limits settings.poll_ms
-        settings.numbered_oks) }
-    ensures sender { IfOk result
-        (λ s. s.sender ≡ new_sender settings.window settings.numbered_oks settings.limit_ms) }
-{
-    let numbered = settings.numbered_oks;
-    let desk = Desk::new(
-        alloc,
-        settings.scripts,
-        settings.limits,
-        settings.poll_ms,
-        numbered,
-    )?;
-    let sender = Sender::new(alloc, settings.window, numbered, settings.limit_ms)?;
-    Ok(Session::new(desk, sender))
-}
 
 // The name that the file has at the desk.
 fn file_name() -> Name
@@ -84,24 +56,24 @@ fn print_job<L: Link, T: Clock>(
     settings: Settings,
     turns: u64,
 ) -> Report
-    requires down { L.up link.old ≡ false }
-    requires suits { SuitsAs settings.numbered_oks (L.past link.old) (L.kind link.old).oks }
+    requires down { (L.state link.old).up ≡ false }
+    requires suits { SuitsAs settings.numbered_oks (L.state link.old).past (L.state link.old).kind.oks }
     requires sound { IsSettings settings }
     requires cool { first_hot_of settings.limits job.commands ≡ None }
 
     // The result.
-    ensures run { IsRefused (seen_of (L.past link.old) (L.past link.new)
-        (L.faults link.old) (L.faults link.new) (T.moment clock.new)) result report.NoMemory
-        ⊎ IsRun (L.kind link.old) settings job (over_port port.now turns)
-        (seen_of (L.past link.old) (L.past link.new)
-        (L.faults link.old) (L.faults link.new) (T.moment clock.new)) result }
+    ensures run { IsRefused (seen_of (L.state link.old).past (L.state link.new).past
+        (L.state link.old).faults (L.state link.new).faults (T.moment clock.new)) result report.NoMemory
+        ⊎ IsRun (L.state link.old).kind settings job (over_port port.now turns)
+        (seen_of (L.state link.old).past (L.state link.new).past
+        (L.state link.old).faults (L.state link.new).faults (T.moment clock.new)) result }
 
     // The link.
-    ensures down { L.up link.new ≡ false }
-    ensures kind { L.kind link.new ≡ L.kind link.old }
-    ensures counts { Counts (result ≡ report.LinkFailed) (L.faults link.old) (L.faults link.new) }
+    ensures down { (L.state link.new).up ≡ false }
+    ensures kind { (L.state link.new).kind ≡ (L.state link.old).kind }
+    ensures counts { Counts (result ≡ report.LinkFailed) (L.state link.old).faults (L.state link.new).faults }
     ensures used { (made : ℕ) → result ≡ report.TurnsUsed made
-        → RoseBy turns (L.calls link.old) (L.calls link.new) }
+        → RoseBy turns (L.state link.old).calls (L.state link.new).calls }
     ensures source { result ≢ report.SourceFailed }
 
     ensures untouched { uses_link result ≡ false
@@ -114,7 +86,7 @@ fn print_job<L: Link, T: Clock>(
 {
     let commands = job.count() as u32;
     let skipped = job.skipped();
-    match session_of(alloc, settings) {
+    match settings.session(alloc) {
         Ok(mut session) => {
             let end = run_print(&mut session, link, clock, port, &file_name(), job, turns);
             report_of(end, port, commands, skipped)
@@ -152,16 +124,16 @@ pub fn print_file<F: Source, L: Link, T: Clock>(
     settings: Option<&str>,
     sure: bool,
 ) -> Report
-    requires down { L.up link.old ≡ false }
+    requires down { (L.state link.old).up ≡ false }
     requires suits { (used : Settings)
         → UseSettings (F.files files.old) (option_map (λ s. s.now) settings) sure (Ok used)
-        → SuitsAs used.numbered_oks (L.past link.old) (L.kind link.old).oks }
+        → SuitsAs used.numbered_oks (L.state link.old).past (L.state link.old).kind.oks }
 
     // The result.
-    ensures print { IsFilePrint (L.kind link.old) (F.files files.old)
+    ensures print { IsFilePrint (L.state link.old).kind (F.files files.old)
         (option_map (λ s. s.now) settings.entry) sure file.now (over_port port.now turns)
-        (seen_of (L.past link.old) (L.past link.new)
-        (L.faults link.old) (L.faults link.new) (T.moment clock.new)) result }
+        (seen_of (L.state link.old).past (L.state link.new).past
+        (L.state link.old).faults (L.state link.new).faults (T.moment clock.new)) result }
 
     // The source.
     ensures files { F.files files.new ≡ F.files files.old }
@@ -169,11 +141,11 @@ pub fn print_file<F: Source, L: Link, T: Clock>(
         (F.faults files.old) (F.faults files.new) }
 
     // The link.
-    ensures down { L.up link.new ≡ false }
-    ensures kind { L.kind link.new ≡ L.kind link.old }
-    ensures link { Counts (result ≡ report.LinkFailed) (L.faults link.old) (L.faults link.new) }
+    ensures down { (L.state link.new).up ≡ false }
+    ensures kind { (L.state link.new).kind ≡ (L.state link.old).kind }
+    ensures link { Counts (result ≡ report.LinkFailed) (L.state link.old).faults (L.state link.new).faults }
     ensures used { (made : ℕ) → result ≡ report.TurnsUsed made
-        → RoseBy turns (L.calls link.old) (L.calls link.new) }
+        → RoseBy turns (L.state link.old).calls (L.state link.new).calls }
 
     // If the report comes before a dial, link and clock are as they were.
     ensures untouched { uses_link result ≡ false

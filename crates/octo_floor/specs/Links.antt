@@ -1,6 +1,6 @@
 -- The links of a floor as what they say of themselves.
 use Rattle.std.specs.Prelude.{List, [], ◌∷◌}
-use Rattle.octo_floor_step.specs.Objects.{LinkState}
+use Rattle.printer_link.specs.Calls.{LinkState}
 use Rattle.octo_floor.specs.declared.links.Links.{Links}
 
 -- the states of eight links

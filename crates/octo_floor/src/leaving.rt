@@ -97,8 +97,7 @@ impl Floor {
         for printer in 0..self.bays.len() {
             self.disconnect_at(printer);
         }
-        // The floor's own facts.
-        let _ = &self.began;
+        prove!(!self.bays.is_empty());
     }
 
     // Whether each printer is offline or lost.

@@ -13,4 +13,4 @@ mod watch;
 pub use floor::{Floor, SessionList};
 pub use links::Links;
 pub use round::Rounded;
-pub use watch::Watch;
+pub use watch::{Unwatched, Watch};

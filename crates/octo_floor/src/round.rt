@@ -1,8 +1,8 @@
 //! A round of a floor.
-ghost use Rattle.std.specs.Prelude.{◌≡◌, ◌≢◌, ◌||◌, [], None, Some, AllPairs};
+ghost use Rattle.std.specs.Prelude.{◌≡◌, ◌≢◌, [], None, Some, AllPairs};
 ghost use Rattle.octo_floor_rules.specs.Events.{started_rows};
 ghost use Rattle.octo_floor_rules.specs.declared.end.FloorFault.{FloorFault};
-ghost use Rattle.octo_floor_step.specs.Objects.{link_state, store_state};
+ghost use Rattle.octo_floor_step.specs.Objects.{store_state};
 ghost use Rattle.octo_floor_round_proof.specs.Floor.{setting, AreUp};
 ghost use Rattle.octo_floor.specs.Links.{link_states};
 ghost use Rattle.octo_floor_round_proof.specs.Points.{GoesOn, LeavesIdle};
@@ -23,13 +23,6 @@ pub struct Rounded {
     pub fault: Option<FloorFault>,
 }
 
-// Whether one of two is so.
-fn either(first: bool, second: bool) -> bool
-    ensures { result ≡ (first || second) }
-{
-    first || second
-}
-
 impl Floor {
     // One round, whose events are added to a list without any. Returns whether a line was received.
     pub(crate) fn round_into<L: Link + Drop, K: Keeper, S: Shelf>(
@@ -40,20 +33,16 @@ impl Floor {
         moment: u64,
         events: &mut EventList,
     ) -> bool
-        requires up { let state = link_state L.kind L.past L.calls L.up L.faults in
-            AreUp self.old.bays (link_states state links.old) }
+        requires up { AreUp self.old.bays (link_states L.state links.old) }
         requires empty { events.old.items ≡ [] }
-        ensures round { let state = link_state L.kind L.past L.calls L.up L.faults in
-            let store = store_state K.tables K.faults S.files S.faults in
-            IsRound moment
-            (setting self.old (link_states state links.old) (store keeper.old shelf.old))
-            (setting self.new (link_states state links.new) (store keeper.new shelf.new))
+        ensures round { IsRound moment
+            (setting self.old (link_states L.state links.old) (store_state (K.state keeper.old) (S.state shelf.old)))
+            (setting self.new (link_states L.state links.new) (store_state (K.state keeper.new) (S.state shelf.new)))
             result events.new.items }
     {
         let mut heard = false;
         for printer in 0..self.bays.len() {
-            let hears = self.step_at(printer, links, keeper, shelf, moment, events);
-            heard = either(heard, hears);
+            heard |= self.step_at(printer, links, keeper, shelf, moment, events);
         }
         self.began = true;
         heard
@@ -69,29 +58,22 @@ impl Floor {
         shelf: &mut S,
         moment: u64,
     ) -> Rounded
-        requires up { let state = link_state L.kind L.past L.calls L.up L.faults in
-            AreUp self.old.bays (link_states state links.old) }
+        requires up { AreUp self.old.bays (link_states L.state links.old) }
 
         // Each printer's part, one after the other.
-        ensures round { let state = link_state L.kind L.past L.calls L.up L.faults in
-            let store = store_state K.tables K.faults S.files S.faults in
-            IsRound moment
-            (setting self.old (link_states state links.old) (store keeper.old shelf.old))
-            (setting self.new (link_states state links.new) (store keeper.new shelf.new))
+        ensures round { IsRound moment
+            (setting self.old (link_states L.state links.old) (store_state (K.state keeper.old) (S.state shelf.old)))
+            (setting self.new (link_states L.state links.new) (store_state (K.state keeper.new) (S.state shelf.new)))
             result.heard result.events.items }
 
         // So the copies and the records are counted, the tables are kept, and each printer does what its events say.
-        ensures goes { let state = link_state L.kind L.past L.calls L.up L.faults in
-            let store = store_state K.tables K.faults S.files S.faults in
-            GoesOn
-            (setting self.old (link_states state links.old) (store keeper.old shelf.old))
-            (setting self.new (link_states state links.new) (store keeper.new shelf.new))
+        ensures goes { GoesOn
+            (setting self.old (link_states L.state links.old) (store_state (K.state keeper.old) (S.state shelf.old)))
+            (setting self.new (link_states L.state links.new) (store_state (K.state keeper.new) (S.state shelf.new)))
             result.events.items }
-        ensures idle { let state = link_state L.kind L.past L.calls L.up L.faults in
-            let store = store_state K.tables K.faults S.files S.faults in
-            LeavesIdle
-            (setting self.old (link_states state links.old) (store keeper.old shelf.old))
-            (setting self.new (link_states state links.new) (store keeper.new shelf.new))
+        ensures idle { LeavesIdle
+            (setting self.old (link_states L.state links.old) (store_state (K.state keeper.old) (S.state shelf.old)))
+            (setting self.new (link_states L.state links.new) (store_state (K.state keeper.new) (S.state shelf.new)))
             result.events.items }
         ensures numbers { AllPairs (λ a b. a.number ≢ b.number)
             (started_rows self.new.ledger.history) }
@@ -100,8 +82,7 @@ impl Floor {
         ensures fault { self.old.ledger.fault ≡ None → result.fault ≡ self.new.ledger.fault }
         ensures later { (why : FloorFault) → self.old.ledger.fault ≡ Some why
             → result.fault ≡ None }
-        ensures up_after { let state = link_state L.kind L.past L.calls L.up L.faults in
-            AreUp self.new.bays (link_states state links.new) }
+        ensures up_after { AreUp self.new.bays (link_states L.state links.new) }
     {
         let before = self.ledger.fault();
         let mut events = EventList::new();

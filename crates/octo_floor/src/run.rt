@@ -2,7 +2,7 @@
 ghost use Rattle.std.specs.Prelude.{◌≡◌, ◌≢◌, AllPairs};
 ghost use Rattle.octo_floor_rules.specs.Events.{FloorHistory, started_rows};
 ghost use Rattle.octo_floor_rules.specs.declared.end.Why.TheVariants as why;
-ghost use Rattle.octo_floor_step.specs.Objects.{link_state, store_state};
+ghost use Rattle.octo_floor_step.specs.Objects.{store_state};
 ghost use Rattle.octo_floor_round_proof.specs.Floor.{setting, AreUp};
 ghost use Rattle.octo_floor.specs.Links.{link_states};
 ghost use Rattle.octo_floor_run_proof.specs.Leaving.{Leaves};
@@ -12,7 +12,7 @@ ghost use Rattle.octo_floor_run_proof.specs.Run.{AreCalled, AreNumbersOf, EndsFo
 
 use crate::floor::Floor;
 use crate::links::Links;
-use crate::watch::{Unwatched, Watch};
+use crate::watch::Watch;
 use octo_floor_rules::{FloorEnd, Why};
 use octo_floor_step::EventList;
 use octo_keeper::{Keeper, Shelf};
@@ -46,51 +46,8 @@ impl Floor {
 
     /// Makes rounds until nothing goes on and nothing more can be started, at most `turns`. Then it disconnects each printer that
     /// isn't lost, and returns when each is offline or lost. It rests the clock after a round in which no line was received. The
-    /// links, the keeper and the shelf are those of the floor's former rounds.
-    pub fn run<L: Link + Drop, K: Keeper, S: Shelf, T: Clock>(
-        &mut self,
-        links: &mut Links<L>,
-        keeper: &mut K,
-        shelf: &mut S,
-        clock: &mut T,
-        turns: u64,
-    ) -> FloorEnd
-        requires up { let state = link_state L.kind L.past L.calls L.up L.faults in
-            AreUp self.old.bays (link_states state links.old) }
-
-        // As its rounds, one after the other, in which no fault had come before.
-        ensures goes { let state = link_state L.kind L.past L.calls L.up L.faults in
-            let store = store_state K.tables K.faults S.files S.faults in
-            (events : FloorHistory) × GoesOn
-            (run_begun (setting self.old (link_states state links.old)
-            (store keeper.old shelf.old)))
-            (setting self.new (link_states state links.new) (store keeper.new shelf.new)) events }
-        ensures records { AllPairs (λ a b. a.number ≢ b.number)
-            (started_rows self.new.ledger.history) }
-
-        // Each of them leaves idle only printers that had nothing to start.
-        ensures rounds { let state = link_state L.kind L.past L.calls L.up L.faults in
-            let store = store_state K.tables K.faults S.files S.faults in
-            HasRounds turns
-            (run_begun (setting self.old (link_states state links.old)
-            (store keeper.old shelf.old)))
-            (setting self.new (link_states state links.new) (store keeper.new shelf.new))
-            result.why }
-
-        // What it returns.
-        ensures numbers { AreNumbersOf self.new result }
-        ensures ends { EndsFor self.old self.new result.why }
-        ensures used { let state = link_state L.kind L.past L.calls L.up L.faults in
-            result.why ≡ why.TurnsUsed
-            → AreCalled turns (link_states state links.old) (link_states state links.new) }
-        ensures up_after { let state = link_state L.kind L.past L.calls L.up L.faults in
-            AreUp self.new.bays (link_states state links.new) }
-    {
-        self.run_watched(links, keeper, shelf, clock, turns, &mut Unwatched)
-    }
-
-    /// The same, while something watches: it is shown the events of each round.
-    pub fn run_watched<L: Link + Drop, K: Keeper, S: Shelf, T: Clock, W: Watch>(
+    /// links, the keeper and the shelf are those of the floor's former rounds. `watch` is shown the events of each round.
+    pub fn run<L: Link + Drop, K: Keeper, S: Shelf, T: Clock, W: Watch>(
         &mut self,
         links: &mut Links<L>,
         keeper: &mut K,
@@ -99,36 +56,29 @@ impl Floor {
         turns: u64,
         watch: &mut W,
     ) -> FloorEnd
-        requires up { let state = link_state L.kind L.past L.calls L.up L.faults in
-            AreUp self.old.bays (link_states state links.old) }
+        requires up { AreUp self.old.bays (link_states L.state links.old) }
 
         // As its rounds, one after the other, in which no fault had come before.
-        ensures goes { let state = link_state L.kind L.past L.calls L.up L.faults in
-            let store = store_state K.tables K.faults S.files S.faults in
-            (events : FloorHistory) × GoesOn
-            (run_begun (setting self.old (link_states state links.old)
-            (store keeper.old shelf.old)))
-            (setting self.new (link_states state links.new) (store keeper.new shelf.new)) events }
+        ensures goes { (events : FloorHistory) × GoesOn
+            (run_begun (setting self.old (link_states L.state links.old)
+            (store_state (K.state keeper.old) (S.state shelf.old))))
+            (setting self.new (link_states L.state links.new) (store_state (K.state keeper.new) (S.state shelf.new))) events }
         ensures records { AllPairs (λ a b. a.number ≢ b.number)
             (started_rows self.new.ledger.history) }
 
         // Each of them leaves idle only printers that had nothing to start.
-        ensures rounds { let state = link_state L.kind L.past L.calls L.up L.faults in
-            let store = store_state K.tables K.faults S.files S.faults in
-            HasRounds turns
-            (run_begun (setting self.old (link_states state links.old)
-            (store keeper.old shelf.old)))
-            (setting self.new (link_states state links.new) (store keeper.new shelf.new))
+        ensures rounds { HasRounds turns
+            (run_begun (setting self.old (link_states L.state links.old)
+            (store_state (K.state keeper.old) (S.state shelf.old))))
+            (setting self.new (link_states L.state links.new) (store_state (K.state keeper.new) (S.state shelf.new)))
             result.why }
 
         // What it returns.
         ensures numbers { AreNumbersOf self.new result }
         ensures ends { EndsFor self.old self.new result.why }
-        ensures used { let state = link_state L.kind L.past L.calls L.up L.faults in
-            result.why ≡ why.TurnsUsed
-            → AreCalled turns (link_states state links.old) (link_states state links.new) }
-        ensures up_after { let state = link_state L.kind L.past L.calls L.up L.faults in
-            AreUp self.new.bays (link_states state links.new) }
+        ensures used { result.why ≡ why.TurnsUsed
+            → AreCalled turns (link_states L.state links.old) (link_states L.state links.new) }
+        ensures up_after { AreUp self.new.bays (link_states L.state links.new) }
     {
         self.ledger.begin_run();
         let mut events = EventList::new();

@@ -2,13 +2,13 @@
 ghost use Rattle.std.specs.Prelude.{◌≡◌, ◌<◌, ◌≤◌, ◌+◌, ◌++◌, length, Some, slice_get};
 ghost use Rattle.octo_floor_bay.specs.Bay.{BayData};
 ghost use Rattle.octo_floor_rules.specs.Events.{FloorHistory};
-ghost use Rattle.octo_floor_step.specs.Objects.{link_state, store_state};
+ghost use Rattle.octo_floor_step.specs.Objects.{store_state};
 ghost use Rattle.octo_floor_round_proof.specs.Floor.{setting, AreUp};
 ghost use Rattle.octo_floor.specs.Links.{link_states};
 ghost use Rattle.octo_floor_round_proof.specs.Round.{IsDialled, IsStepOver, IsStepAt};
 
 use crate::floor::Floor;
-use crate::links::Links;
+use crate::links::{Links, MOST_LINKS};
 use byte_text::Name;
 use octo_floor_bay::Bay;
 use octo_floor_step::EventList;
@@ -38,14 +38,14 @@ impl Floor {
     ) -> bool
         requires within { printer < length self.old.bays }
         requires up { (b : BayData) → slice_get self.old.bays printer ≡ Some b
-            → L.up link.old ≡ b.session.up }
+            → (L.state link.old).up ≡ b.session.up }
         requires room { length events.old.items ≤ 21 }
         ensures step { (added : FloorHistory) × (events.new.items ≡ events.old.items ++ added)
             × IsStepOver printer moment
-            (link_state L.kind L.past L.calls L.up L.faults link.old)
-            (link_state L.kind L.past L.calls L.up L.faults link.new)
-            (store_state K.tables K.faults S.files S.faults keeper.old shelf.old)
-            (store_state K.tables K.faults S.files S.faults keeper.new shelf.new)
+            (L.state link.old)
+            (L.state link.new)
+            (store_state (K.state keeper.old) (S.state shelf.old))
+            (store_state (K.state keeper.new) (S.state shelf.new))
             self.old self.new result added }
         ensures few { length events.new.items ≤ length events.old.items + 3 }
     {
@@ -74,20 +74,16 @@ impl Floor {
         events: &mut EventList,
     ) -> bool
         requires within { printer < length self.old.bays }
-        requires up { let state = link_state L.kind L.past L.calls L.up L.faults in
-            AreUp self.old.bays (link_states state links.old) }
+        requires up { AreUp self.old.bays (link_states L.state links.old) }
         requires room { length events.old.items ≤ 21 }
-        ensures step { let state = link_state L.kind L.past L.calls L.up L.faults in
-            let store = store_state K.tables K.faults S.files S.faults in
-            (added : FloorHistory) × (events.new.items ≡ events.old.items ++ added)
+        ensures step { (added : FloorHistory) × (events.new.items ≡ events.old.items ++ added)
             × IsStepAt printer moment
-            (setting self.old (link_states state links.old) (store keeper.old shelf.old))
-            (setting self.new (link_states state links.new) (store keeper.new shelf.new))
+            (setting self.old (link_states L.state links.old) (store_state (K.state keeper.old) (S.state shelf.old)))
+            (setting self.new (link_states L.state links.new) (store_state (K.state keeper.new) (S.state shelf.new)))
             result added }
         ensures few { length events.new.items ≤ length events.old.items + 3 }
     {
-        // At most eight printers: each has a link.
-        let _ = &self.began;
+        prove!(self.bays.len() <= MOST_LINKS);
         match printer {
             0 => self.step_over(printer, &mut links.a, keeper, shelf, moment, events),
             1 => self.step_over(printer, &mut links.b, keeper, shelf, moment, events),

@@ -8,9 +8,9 @@ pub trait Watch {
     fn see(&mut self, ports: &[Name], events: &[FloorEvent]);
 }
 
-// What looks at nothing.
+/// What looks at nothing.
 #[derive(Drop)]
-pub(crate) struct Unwatched;
+pub struct Unwatched;
 
 impl Watch for Unwatched {
     fn see(&mut self, _ports: &[Name], _events: &[FloorEvent]) {}

@@ -70,12 +70,12 @@ impl Bay {
 
     /// One turn of the session, as `Session::turn`. Its note is a deed; so is a change of the desk's state that makes no note.
     pub fn turn<L: Link>(&mut self, link: &mut L, moment: u64) -> Turned
-        requires { L.up link.old ≡ self.old.session.up }
+        requires { (L.state link.old).up ≡ self.old.session.up }
 
         // What the session says of its turn.
-        ensures turn { IsTurn moment (L.kind link.old) (L.past link.old) (L.past link.new)
-            (L.calls link.old) (L.calls link.new) self.old.session self.new.session result }
-        ensures by_note { IsTurnByNote moment (L.kind link.old) self.old.session
+        ensures turn { IsTurn moment (L.state link.old).kind (L.state link.old).past (L.state link.new).past
+            (L.state link.old).calls (L.state link.new).calls self.old.session self.new.session result }
+        ensures by_note { IsTurnByNote moment (L.state link.old).kind self.old.session
             self.new.session result }
         ensures active { IsActive self.old.session.desk }
 
@@ -87,16 +87,16 @@ impl Bay {
 
         // Beside the link's history.
         ensures tied { (front : Option (List WorldEvent))
-            → IsInStep (L.kind link.old) front (L.past link.old) self.old
-            → IsInStep (L.kind link.old) front (L.past link.new) self.new }
+            → IsInStep (L.state link.old).kind front (L.state link.old).past self.old
+            → IsInStep (L.state link.old).kind front (L.state link.new).past self.new }
 
         // The link: whether it is up, what stays, and its counts of faults and calls.
-        ensures link { L.up link.new ≡ self.new.session.up }
-        ensures kind { L.kind link.new ≡ L.kind link.old }
+        ensures link { (L.state link.new).up ≡ self.new.session.up }
+        ensures kind { (L.state link.new).kind ≡ (L.state link.old).kind }
         ensures counts { Counts (fact_of result.note ≡ fact.Failed)
-            (L.faults link.old) (L.faults link.new) }
+            (L.state link.old).faults (L.state link.new).faults }
         ensures calls { is_calling (doing self.old.session) ≡ true
-            → RoseBy 1 (L.calls link.old) (L.calls link.new) }
+            → RoseBy 1 (L.state link.old).calls (L.state link.new).calls }
     {
         let was = self.session.desk().state();
         let turned = self.session.turn(link, moment);

@@ -3,19 +3,20 @@ use Rattle.std.proofs.Common.{◌≡◌, ◌≢◌, inl, ℕ, false, List, lengt
 use Rattle.std.specs.Prelude.{All, Some, IfSome, IfOk, Result, Ok, Err, slice_get}
 use Rattle.std.proofs.lemmas.List.Elements.{All-map, All-replicate}
 use Rattle.octo_session.specs.Data.{SessionData}
+use Rattle.octo_settings.specs.Session.{session_by}
 use Rattle.octo_settings.specs.declared.settings.Settings.{Settings}
-use Rattle.octo_floor_settings.specs.declared.floor.FloorSettings.{FloorSettings}
+use Rattle.octo_settings.specs.declared.floor.FloorSettings.{FloorSettings}
 use Rattle.octo_keeper.specs.Tables.{AreSound}
 use Rattle.octo_keeper.specs.declared.tables.Tables.{Tables}
 use Rattle.print_queue.specs.declared.entry.QueueEntry.{QueueEntry}
 use Rattle.octo_floor_bay.specs.Bay.{BayData}
-use Rattle.octo_floor_step.specs.Objects.{LinkState}
+use Rattle.printer_link.specs.Calls.{LinkState}
 use Rattle.octo_floor_step.specs.Phases.{offline, leaving, phase_of}
 use Rattle.octo_floor_round_proof.specs.Floor.{FloorData, AreUp, new_bay, new_floor}
 use Rattle.octo_floor_round_proof.specs.Tables.{AreKeptSince}
 use Rattle.octo_floor_round_proof.proofs.Floors.{all_at}
 use Rattle.octo_floor_run_proof.specs.Run.{IsOpen}
-use Rattle.octo_floor_command.specs.Beginning.{IsBegun, IsQueueOf, floor_session, floor_sessions}
+use Rattle.octo_floor_command.specs.Beginning.{IsBegun, IsQueueOf, floor_sessions}
 
 -- a floor that was made on tables has begun on them
 pub begun_of : {E : Type 0} (f : FloorSettings) (tables : Tables) (sessions : List SessionData) (queue : List QueueEntry) (made : Result FloorData E) → AreSound tables
@@ -35,15 +36,15 @@ begun_of f tables sessions queue (Ok floor) sound its are is keeps kept same = r
 }
 
 -- what holds of a new session of the settings holds of each printer's
-pub each_new : (P : BayData → Type 0) (s : Settings) (ports : List (List ℕ)) → P (new_bay (floor_session s)) → All P (map new_bay (floor_sessions s ports))
-each_new P s ports so = All-map P new_bay (floor_sessions s ports) (All-replicate (λ (x : SessionData). P (new_bay x)) (length ports) (floor_session s) so)
+pub each_new : (P : BayData → Type 0) (s : Settings) (ports : List (List ℕ)) → P (new_bay (session_by s)) → All P (map new_bay (floor_sessions s ports))
+each_new P s ports so = All-map P new_bay (floor_sessions s ports) (All-replicate (λ (x : SessionData). P (new_bay x)) (length ports) (session_by s) so)
 
 module _ (f : FloorSettings) (kept : Option Tables) (first : FloorData) (b : IsBegun f kept first) where
-  each_first : (P : BayData → Type 0) → P (new_bay (floor_session f.settings)) → All P first.bays
+  each_first : (P : BayData → Type 0) → P (new_bay (session_by f.settings)) → All P first.bays
   each_first P so = subst (λ (x : FloorData). All P x.bays) (sym b.made) (each_new P f.settings f.ports so)
 
   -- and so of the one at a place
-  pub first_at : (P : BayData → Type 0) → P (new_bay (floor_session f.settings)) → (printer : ℕ) (bay : BayData) → slice_get first.bays printer ≡ Some bay → P bay
+  pub first_at : (P : BayData → Type 0) → P (new_bay (session_by f.settings)) → (printer : ℕ) (bay : BayData) → slice_get first.bays printer ≡ Some bay → P bay
   first_at P so printer bay its = all_at P first.bays printer bay (each_first P so) its
 
   -- before a run each link is up exactly if its session is

@@ -9,8 +9,8 @@ use Rattle.octo_files.specs.declared.report.Report.TheVariants as report
 use Rattle.octo_settings.specs.Config.{document_of, most_config_bytes, settings_or}
 use Rattle.octo_settings.specs.Values.{and_then}
 use Rattle.octo_settings.specs.declared.fault.SettingsFault.TheVariants.{NotToml}
-use Rattle.octo_floor_settings.specs.Floor.{printers_or, with_printers}
-use Rattle.octo_floor_settings.specs.declared.floor.FloorSettings.{FloorSettings}
+use Rattle.octo_settings.specs.Floor.{printers_or, with_printers}
+use Rattle.octo_settings.specs.declared.floor.FloorSettings.{FloorSettings}
 use Rattle.octo_floor_command.specs.Settings.{AreFloorSettings, HaveFloorSettings, floor_settings_or}
 
 -- settings of the bytes that a source has returned for a file

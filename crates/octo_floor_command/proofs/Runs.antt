@@ -7,7 +7,7 @@ use Rattle.print_queue.specs.Lawful.{IsOrdered}
 use Rattle.printer_link.specs.Suits.{SuitsAs}
 use Rattle.printer_model.specs.declared.event.WorldEvent.{WorldEvent}
 use Rattle.octo_keeper.specs.declared.tables.Tables.{Tables}
-use Rattle.octo_floor_settings.specs.declared.floor.FloorSettings.{FloorSettings}
+use Rattle.octo_settings.specs.declared.floor.FloorSettings.{FloorSettings}
 use Rattle.octo_floor_bay.specs.Bay.{BayData, IsBay}
 use Rattle.octo_floor_bay.specs.Prints.{IsInStep}
 use Rattle.octo_floor_bay.proofs.Sound.{sound_over}
@@ -17,7 +17,7 @@ use Rattle.octo_floor_rules.specs.declared.end.FloorFault.{FloorFault}
 use Rattle.octo_floor_rules.specs.declared.end.FloorFault.TheVariants as fault
 use Rattle.octo_floor_rules.specs.declared.end.Why.{Why}
 use Rattle.octo_floor_rules.specs.declared.end.Why.TheVariants as why
-use Rattle.octo_floor_step.specs.Objects.{LinkState}
+use Rattle.printer_link.specs.Calls.{LinkState}
 use Rattle.octo_floor.specs.Links.{link_states}
 use Rattle.octo_floor.specs.declared.links.Links.{Links}
 use Rattle.octo_floor_round_proof.specs.Floor.{FloorData, AreFresh, AreUp}

@@ -1,16 +1,16 @@
 -- What a floor begins with, by its settings.
-use Rattle.std.specs.Prelude.{◌≡◌, ℕ, ◌≤◌, false, List, length, replicate, Option, IfSome}
+use Rattle.std.specs.Prelude.{◌≡◌, ℕ, ◌≤◌, List, length, replicate, Option, IfSome}
 use Rattle.std.specs.List.Sorted.{IsPermutation}
-use Rattle.job_desk.specs.Data.{new_desk}
-use Rattle.send_window.specs.Data.{new_sender}
 use Rattle.octo_session.specs.Data.{SessionData}
+use Rattle.octo_settings.specs.Session.{session_by}
 use Rattle.octo_settings.specs.declared.settings.Settings.{Settings}
 use Rattle.print_queue.specs.Lawful.{IsLawful, IsOrdered}
 use Rattle.print_queue.specs.declared.entry.QueueEntry.{QueueEntry}
 use Rattle.octo_keeper.specs.Tables.{AreSound}
 use Rattle.octo_keeper.specs.declared.tables.Tables.{Tables}
-use Rattle.octo_floor_settings.specs.declared.floor.FloorSettings.{FloorSettings}
-use Rattle.octo_floor_step.specs.Objects.{LinkState, StoreState}
+use Rattle.octo_settings.specs.declared.floor.FloorSettings.{FloorSettings}
+use Rattle.printer_link.specs.Calls.{LinkState}
+use Rattle.octo_floor_step.specs.Objects.{StoreState}
 use Rattle.octo_floor_round_proof.specs.Floor.{FloorData, Setting, setting, new_floor}
 use Rattle.octo_floor_round_proof.specs.Tables.{AreKeptSince}
 
@@ -26,14 +26,9 @@ around links store = record { links = links; store = store }
 abbrev pub floor_in : Around → FloorData → Setting
 floor_in a floor = setting floor a.links a.store
 
--- a session at which nothing was done yet, with the scripts, limits and times of the settings
-abbrev pub floor_session : Settings → SessionData
-floor_session s =
-    record { desk = new_desk s.scripts s.limits s.poll_ms s.numbered_oks; sender = new_sender s.window s.numbered_oks s.limit_ms; up = false }
-
--- one for each printer
+-- a new session by the settings for each printer
 abbrev pub floor_sessions : Settings → List (List ℕ) → List SessionData
-floor_sessions s ports = replicate (length ports) (floor_session s)
+floor_sessions s ports = replicate (length ports) (session_by s)
 
 -- no link was used, keeper and shelf hold what they held, and no count fell
 pub record IsUnrun (old new : Around) : Type 0 where

@@ -5,7 +5,7 @@ use Rattle.octo_outside.specs.Traits.{Files}
 use Rattle.octo_files.specs.declared.report.Report.{Report}
 use Rattle.print_queue.specs.Lawful.{IsOrdered}
 use Rattle.printer_model.specs.declared.event.WorldEvent.{WorldEvent}
-use Rattle.octo_floor_settings.specs.declared.floor.FloorSettings.{FloorSettings}
+use Rattle.octo_settings.specs.declared.floor.FloorSettings.{FloorSettings}
 use Rattle.octo_floor_bay.specs.Bay.{BayData}
 use Rattle.octo_floor_bay.specs.Prints.{IsSoundOver}
 use Rattle.octo_floor_rules.specs.Events.{started_rows}
@@ -14,7 +14,7 @@ use Rattle.octo_floor_rules.specs.declared.end.FloorFault.{FloorFault}
 use Rattle.octo_floor_rules.specs.declared.end.FloorFault.TheVariants as fault
 use Rattle.octo_floor_rules.specs.declared.end.Why.{Why}
 use Rattle.octo_floor_rules.specs.declared.end.Why.TheVariants as why
-use Rattle.octo_floor_step.specs.Objects.{LinkState}
+use Rattle.printer_link.specs.Calls.{LinkState}
 use Rattle.octo_floor_round_proof.specs.Floor.{FloorData, AreUp}
 use Rattle.octo_floor_round_proof.specs.Points.{GoesOn}
 use Rattle.octo_floor_round_proof.specs.Tables.{AreKept}

@@ -6,8 +6,8 @@ use Rattle.octo_files.specs.declared.report.Report.{Report}
 use Rattle.octo_files.specs.declared.report.Report.TheVariants as report
 use Rattle.octo_settings.specs.declared.fault.SettingsFault.{SettingsFault}
 use Rattle.octo_settings.specs.declared.fault.SettingsFault.TheVariants.{NotToml}
-use Rattle.octo_floor_settings.specs.Floor.{floor_config}
-use Rattle.octo_floor_settings.specs.declared.floor.FloorSettings.{FloorSettings}
+use Rattle.octo_settings.specs.Floor.{floor_config}
+use Rattle.octo_settings.specs.declared.floor.FloorSettings.{FloorSettings}
 
 -- settings, unless they are refused
 abbrev pub floor_settings_or : Result FloorSettings SettingsFault → Result FloorSettings Report

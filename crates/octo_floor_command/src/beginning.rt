@@ -4,15 +4,15 @@ ghost use Rattle.octo_outside.specs.Recorded.{Counts};
 ghost use Rattle.octo_keeper.specs.Tables.{AreSound};
 ghost use Rattle.octo_keeper.specs.declared.tables.Tables.{Tables};
 ghost use Rattle.octo_floor_rules.specs.declared.end.FloorFault.TheVariants as fault;
-ghost use Rattle.octo_floor_settings.specs.Sound.{IsFloorSettings};
+ghost use Rattle.octo_settings.specs.Sound.{IsFloorSettings};
 ghost use Rattle.octo_floor_round_proof.specs.Floor.{AreFresh};
 ghost use Rattle.octo_floor_command.specs.Beginning.{IsBegun};
 
 use crate::sessions::sessions_of;
 use octo_floor::Floor;
 use octo_floor_rules::FloorFault;
-use octo_floor_settings::FloorSettings;
 use octo_keeper::{Keeper, KeeperFault, Shelf, ShelfFault, Tables};
+use octo_settings::FloorSettings;
 use print_queue::Queue;
 use std::alloc::{AllocError, Global};
 
@@ -23,14 +23,14 @@ fn read_kept<K: Keeper, S: Shelf>(
     shelf: &mut S,
 ) -> Result<Tables, FloorFault>
     ensures same { IfOk result
-        (λ loaded. IfSome (K.tables keeper.old) (λ tables. loaded ≡ tables)) }
+        (λ loaded. IfSome (K.state keeper.old).tables (λ tables. loaded ≡ tables)) }
     ensures sound { IfOk result AreSound }
-    ensures tables { K.tables keeper.new ≡ K.tables keeper.old }
-    ensures files { S.files shelf.new ≡ S.files shelf.old }
+    ensures tables { (K.state keeper.new).tables ≡ (K.state keeper.old).tables }
+    ensures files { (S.state shelf.new).files ≡ (S.state shelf.old).files }
     ensures keeper { Counts (IsErrOf result fault.KeeperFailed)
-        (K.faults keeper.old) (K.faults keeper.new) }
+        (K.state keeper.old).faults (K.state keeper.new).faults }
     ensures shelf { Counts (IsErrOf result fault.ShelfFailed)
-        (S.faults shelf.old) (S.faults shelf.new) }
+        (S.state shelf.old).faults (S.state shelf.new).faults }
 {
     let tables = match keeper.load(alloc) {
         Ok(tables) => tables,
@@ -75,14 +75,14 @@ pub(crate) fn begin_by<K: Keeper, S: Shelf>(
     shelf: &mut S,
 ) -> Result<Floor, FloorFault>
     requires { IsFloorSettings settings }
-    ensures begun { IfOk result (IsBegun settings (K.tables keeper.old)) }
+    ensures begun { IfOk result (IsBegun settings (K.state keeper.old).tables) }
     ensures fresh { IfOk result (λ floor. AreFresh floor.bays) }
-    ensures tables { K.tables keeper.new ≡ K.tables keeper.old }
-    ensures files { S.files shelf.new ≡ S.files shelf.old }
+    ensures tables { (K.state keeper.new).tables ≡ (K.state keeper.old).tables }
+    ensures files { (S.state shelf.new).files ≡ (S.state shelf.old).files }
     ensures keeper { Counts (IsErrOf result fault.KeeperFailed)
-        (K.faults keeper.old) (K.faults keeper.new) }
+        (K.state keeper.old).faults (K.state keeper.new).faults }
     ensures shelf { Counts (IsErrOf result fault.ShelfFailed)
-        (S.faults shelf.old) (S.faults shelf.new) }
+        (S.state shelf.old).faults (S.state shelf.new).faults }
 {
     let tables = read_kept(alloc, keeper, shelf)?;
     match floor_of(alloc, settings, tables) {

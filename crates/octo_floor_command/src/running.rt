@@ -5,9 +5,9 @@ ghost use Rattle.octo_files.specs.declared.report.Report.{Report};
 ghost use Rattle.octo_files.specs.declared.report.Report.TheVariants as report;
 ghost use Rattle.octo_floor.specs.Links.{link_states};
 ghost use Rattle.octo_floor_bay.specs.Bay.{IsBay};
-ghost use Rattle.octo_floor_settings.specs.Sound.{IsFloorSettings};
-ghost use Rattle.octo_floor_settings.specs.declared.floor.FloorSettings.{FloorSettings};
-ghost use Rattle.octo_floor_step.specs.Objects.{link_state, store_state};
+ghost use Rattle.octo_settings.specs.Sound.{IsFloorSettings};
+ghost use Rattle.octo_settings.specs.declared.floor.FloorSettings.{FloorSettings};
+ghost use Rattle.octo_floor_step.specs.Objects.{store_state};
 ghost use Rattle.octo_outside.specs.Recorded.{Counts};
 ghost use Rattle.printer_link.specs.Suits.{SuitsAs};
 ghost use Rattle.octo_floor_command.specs.Beginning.{around};
@@ -21,9 +21,9 @@ use crate::report::{FloorReport, floor_fault_report};
 use crate::settings::read_settings_file;
 use octo_floor::{Floor, Links, Watch};
 use octo_floor_bay::Bay;
-use octo_floor_settings::FloorSettings;
 use octo_keeper::{Keeper, Shelf};
 use octo_outside::{Clock, Source};
+use octo_settings::FloorSettings;
 use printer_link::Link;
 use std::alloc::Global;
 
@@ -69,27 +69,23 @@ fn run_by<L: Link + Drop, T: Clock, K: Keeper, S: Shelf, W: Watch>(
     watch: &mut W,
 ) -> FloorDone
     requires sound { IsFloorSettings settings }
-    requires down { EachLink (λ l. L.up l ≡ false) links.old }
+    requires down { EachLink (λ l. (L.state l).up ≡ false) links.old }
     requires suits { EachLink
-        (λ l. SuitsAs settings.settings.numbered_oks (L.past l) (L.kind l).oks) links.old }
-    ensures runs { let state = link_state L.kind L.past L.calls L.up L.faults in
-        let store = store_state K.tables K.faults S.files S.faults in
-        RunsBy settings turns
-        (around (link_states state links.old) (store keeper.old shelf.old))
-        (around (link_states state links.new) (store keeper.new shelf.new))
+        (λ l. SuitsAs settings.settings.numbered_oks (L.state l).past (L.state l).kind.oks) links.old }
+    ensures runs { RunsBy settings turns
+        (around (link_states L.state links.old) (store_state (K.state keeper.old) (S.state shelf.old)))
+        (around (link_states L.state links.new) (store_state (K.state keeper.new) (S.state shelf.new)))
         result.report result.floor }
-    ensures causes { let state = link_state L.kind L.past L.calls L.up L.faults in
-        let store = store_state K.tables K.faults S.files S.faults in
-        HasFloorCauses
-        (around (link_states state links.old) (store keeper.old shelf.old))
-        (around (link_states state links.new) (store keeper.new shelf.new)) result.report }
+    ensures causes { HasFloorCauses
+        (around (link_states L.state links.old) (store_state (K.state keeper.old) (S.state shelf.old)))
+        (around (link_states L.state links.new) (store_state (K.state keeper.new) (S.state shelf.new))) result.report }
     ensures refusal { (why : Report) → result.report ≡ floor.Command why → why ≡ report.NoMemory }
 {
     let mut floor = match begin_by(alloc, settings, keeper, shelf) {
         Ok(floor) => floor,
         Err(fault) => return FloorDone::unrun(floor_fault_report(fault)),
     };
-    let end = floor.run_watched(links, keeper, shelf, clock, turns, watch);
+    let end = floor.run(links, keeper, shelf, clock, turns, watch);
     know_bays(floor.printers());
     FloorDone {
         report: FloorReport::Ran { end, turns },
@@ -113,22 +109,18 @@ pub fn run_floor<F: Source, L: Link + Drop, T: Clock, K: Keeper, S: Shelf, W: Wa
     shelf: &mut S,
     watch: &mut W,
 ) -> FloorDone
-    requires down { EachLink (λ l. L.up l ≡ false) links.old }
+    requires down { EachLink (λ l. (L.state l).up ≡ false) links.old }
     requires suits { (s : FloorSettings) → HaveFloorSettings (F.files files.old) settings.now (Ok s)
-        → EachLink (λ l. SuitsAs s.settings.numbered_oks (L.past l) (L.kind l).oks) links.old }
+        → EachLink (λ l. SuitsAs s.settings.numbered_oks (L.state l).past (L.state l).kind.oks) links.old }
 
     // Theorem Floor: what it comes to, and each failure by its cause.
-    ensures floors { let state = link_state L.kind L.past L.calls L.up L.faults in
-        let store = store_state K.tables K.faults S.files S.faults in
-        Floors (F.files files.old) settings.now turns
-        (around (link_states state links.old) (store keeper.old shelf.old))
-        (around (link_states state links.new) (store keeper.new shelf.new))
+    ensures floors { Floors (F.files files.old) settings.now turns
+        (around (link_states L.state links.old) (store_state (K.state keeper.old) (S.state shelf.old)))
+        (around (link_states L.state links.new) (store_state (K.state keeper.new) (S.state shelf.new)))
         result.report result.floor }
-    ensures causes { let state = link_state L.kind L.past L.calls L.up L.faults in
-        let store = store_state K.tables K.faults S.files S.faults in
-        HasFloorCauses
-        (around (link_states state links.old) (store keeper.old shelf.old))
-        (around (link_states state links.new) (store keeper.new shelf.new)) result.report }
+    ensures causes { HasFloorCauses
+        (around (link_states L.state links.old) (store_state (K.state keeper.old) (S.state shelf.old)))
+        (around (link_states L.state links.new) (store_state (K.state keeper.new) (S.state shelf.new))) result.report }
     ensures refusal { (why : Report) → result.report ≡ floor.Command why
         → is_settings_refusal why ≡ true }
 

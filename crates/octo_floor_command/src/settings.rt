@@ -3,13 +3,12 @@ ghost use Rattle.std.specs.Prelude.{◌≡◌, ◌≢◌, ◌⊎◌, Err, IfErr,
 ghost use Rattle.octo_outside.specs.Recorded.{Counts};
 ghost use Rattle.octo_files.specs.Settings.{is_settings_refusal};
 ghost use Rattle.octo_files.specs.declared.report.Report.TheVariants as report;
-ghost use Rattle.octo_floor_settings.specs.Sound.{IsFloorSettings};
+ghost use Rattle.octo_settings.specs.Sound.{IsFloorSettings};
 ghost use Rattle.octo_floor_command.specs.Settings.{AreFloorSettings, HaveFloorSettings};
 
 use octo_files::Report;
-use octo_floor_settings::{FloorSettings, read_floor_settings};
 use octo_outside::{ReadAll, Source, read_all};
-use octo_settings::{MOST_SETTINGS_BYTES, SettingsFault};
+use octo_settings::{FloorSettings, MOST_SETTINGS_BYTES, SettingsFault, read_floor_settings};
 use std::alloc::Global;
 
 // The settings that bytes say.

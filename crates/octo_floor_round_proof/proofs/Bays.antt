@@ -23,7 +23,8 @@ use Rattle.octo_floor_rules.specs.Stock.{after_event}
 use Rattle.octo_floor_rules.specs.declared.event.FloorEvent.TheVariants.{Ended, Started, Passed}
 use Rattle.octo_floor_step.specs.Counted.{one_if}
 use Rattle.octo_floor_step.specs.Ledger.{LedgerData, with_events, with_end_written, with_fault, noted_events}
-use Rattle.octo_floor_step.specs.Objects.{LinkState, StoreState}
+use Rattle.printer_link.specs.Calls.{LinkState}
+use Rattle.octo_floor_step.specs.Objects.{StoreState}
 use Rattle.octo_floor_step.specs.Phases.{phase_in, phase_of, is_up_in, IsAtRest}
 use Rattle.octo_floor_step.specs.Step.{Begins, IsEndTold, faulty, passed, started, not_free, nothing_fits, takes, IsStep}
 use Rattle.octo_floor_step.proofs.Counted.{same_rows, same_endings, one_row, one_ending}

@@ -25,7 +25,7 @@ use Rattle.octo_floor_bay.specs.declared.deed.Deed.TheVariants as deed
 use Rattle.octo_floor_rules.specs.Events.{FloorHistory, notes_of}
 use Rattle.octo_floor_rules.specs.declared.event.FloorEvent.TheVariants.{Started, Passed}
 use Rattle.octo_floor_step.specs.Ledger.{LedgerData, noted_events, ended_events}
-use Rattle.octo_floor_step.specs.Objects.{LinkState}
+use Rattle.printer_link.specs.Calls.{LinkState}
 use Rattle.octo_floor_step.specs.Phases.{lost, phase_in, phase_after, IsAtRest}
 use Rattle.octo_floor_step.specs.Step.{IsBayTurn, Begins, faulty, passed, started, not_free, nothing_fits, takes}
 use Rattle.octo_session.specs.declared.found.Turned.{Turned}

@@ -8,7 +8,8 @@ use Rattle.std.proofs.lemmas.Option.{slice_get_within, get_or_from_slice_get}
 use Rattle.octo_floor_bay.specs.Bay.{BayData}
 use Rattle.octo_floor_rules.specs.Events.{FloorHistory, started_rows}
 use Rattle.octo_floor_step.specs.Counted.{one_if}
-use Rattle.octo_floor_step.specs.Objects.{LinkState, StoreState}
+use Rattle.printer_link.specs.Calls.{LinkState}
+use Rattle.octo_floor_step.specs.Objects.{StoreState}
 use Rattle.octo_floor_step.specs.Phases.{IsAtRest}
 use Rattle.octo_floor_round_proof.specs.Floor.{FloorData, IsFloor, is_active}
 use Rattle.octo_floor_round_proof.specs.Round.{IsStepOver}

@@ -13,7 +13,7 @@ use Rattle.octo_floor_rules.specs.Events.{FloorHistory, started_rows}
 use Rattle.octo_floor_rules.specs.declared.event.FloorEvent.TheVariants.{Started, Passed}
 use Rattle.octo_floor_stock.specs.Files.{printable}
 use Rattle.octo_floor_step.specs.Ledger.{LedgerData, with_events, noted_events, ended_events}
-use Rattle.octo_floor_step.specs.Objects.{LinkState}
+use Rattle.printer_link.specs.Calls.{LinkState}
 use Rattle.octo_floor_step.specs.Phases.{IsAtRest}
 use Rattle.octo_floor_step.specs.Step.{Begins, faulty, passed, started, not_free, nothing_fits, takes, IsStep}
 use Rattle.octo_floor_round_proof.specs.Floor.{IsFloor, Setting, AreUp, is_active}

@@ -8,7 +8,7 @@ use Rattle.octo_floor_bay.specs.Bay.{BayData}
 use Rattle.octo_floor_rules.specs.Events.{FloorHistory}
 use Rattle.octo_floor_rules.specs.declared.event.FloorEvent.TheVariants.{Noted, Ended, Started, Passed}
 use Rattle.octo_floor_stock.specs.Files.{printable}
-use Rattle.octo_floor_step.specs.Objects.{LinkState}
+use Rattle.printer_link.specs.Calls.{LinkState}
 use Rattle.octo_floor_step.proofs.Faults.{none_came, came_then}
 use Rattle.octo_floor_round_proof.specs.Floor.{Setting, AreUp}
 use Rattle.octo_floor_round_proof.specs.Points.{TakesCopies, Does, PassesRightly, GoesOn}

@@ -13,7 +13,8 @@ use Rattle.octo_floor_rules.specs.declared.event.FloorEvent.TheVariants.{Ended, 
 use Rattle.octo_floor_rules.proofs.Counting.{copies_counted}
 use Rattle.octo_floor_rules.proofs.Histories.{after_more, may_come_more, rows_more}
 use Rattle.octo_floor_step.specs.Ledger.{LedgerData, with_events, with_fault, noted_events, ended_events}
-use Rattle.octo_floor_step.specs.Objects.{LinkState, StoreState}
+use Rattle.printer_link.specs.Calls.{LinkState}
+use Rattle.octo_floor_step.specs.Objects.{StoreState}
 use Rattle.octo_floor_step.specs.Step.{IsEndTold, Begins, faulty, passed, started, not_free, nothing_fits, takes, IsStep}
 use Rattle.octo_floor_round_proof.specs.Floor.{HasCome}
 

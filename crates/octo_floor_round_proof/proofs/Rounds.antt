@@ -5,7 +5,8 @@ use Rattle.std.proofs.lemmas.List.{length-set}
 use Rattle.octo_floor_bay.specs.Bay.{BayData}
 use Rattle.octo_floor_rules.specs.Events.{FloorHistory}
 use Rattle.octo_floor_step.specs.Ledger.{LedgerData}
-use Rattle.octo_floor_step.specs.Objects.{LinkState, StoreState}
+use Rattle.printer_link.specs.Calls.{LinkState}
+use Rattle.octo_floor_step.specs.Objects.{StoreState}
 use Rattle.octo_floor_step.specs.Step.{Begins, faulty, passed, started, not_free, nothing_fits, takes, IsStep}
 use Rattle.octo_floor_round_proof.specs.Floor.{FloorData, IsFloor, Setting, AreUp}
 use Rattle.octo_floor_round_proof.specs.Round.{IsStepAt, Steps}

@@ -10,7 +10,8 @@ use Rattle.octo_floor_bay.specs.Prints.{IsInStep}
 use Rattle.octo_floor_rules.specs.Events.{started_rows, endings}
 use Rattle.octo_floor_rules.specs.Stock.{Stock, AllMayCome, after_events}
 use Rattle.octo_floor_step.specs.Ledger.{LedgerData}
-use Rattle.octo_floor_step.specs.Objects.{LinkState, StoreState}
+use Rattle.printer_link.specs.Calls.{LinkState}
+use Rattle.octo_floor_step.specs.Objects.{StoreState}
 use Rattle.octo_floor_step.specs.Phases.{IsAtRest}
 
 -- a floor: each printer with its port and its material, what they share, and whether the first round was made

@@ -24,7 +24,8 @@ use Rattle.octo_floor_rules.specs.Stock.{Stock, Start, AllMayCome, after_events,
 use Rattle.octo_floor_rules.specs.declared.event.FloorEvent.TheVariants.{Noted, Ended, Started, Passed}
 use Rattle.octo_floor_stock.specs.Files.{printable}
 use Rattle.octo_floor_stock.specs.Written.{most_records}
-use Rattle.octo_floor_step.specs.Objects.{LinkState, FaultsCame}
+use Rattle.printer_link.specs.Calls.{LinkState}
+use Rattle.octo_floor_step.specs.Objects.{FaultsCame}
 use Rattle.octo_floor_round_proof.specs.Floor.{Setting, is_active}
 use Rattle.octo_floor_round_proof.specs.Tables.{AreKept}
 

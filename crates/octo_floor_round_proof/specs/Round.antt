@@ -6,7 +6,8 @@ use Rattle.octo_floor_bay.specs.Bay.{BayData, RunsOn, after_deed, run_in}
 use Rattle.octo_floor_bay.specs.Prints.{IsInStep}
 use Rattle.octo_floor_bay.specs.declared.deed.Deed.TheVariants as deed
 use Rattle.octo_floor_rules.specs.Events.{FloorHistory}
-use Rattle.octo_floor_step.specs.Objects.{LinkState, StoreState}
+use Rattle.printer_link.specs.Calls.{LinkState}
+use Rattle.octo_floor_step.specs.Objects.{StoreState}
 use Rattle.octo_floor_step.specs.Step.{IsStep}
 use Rattle.octo_floor_round_proof.specs.Floor.{FloorData, Setting}
 

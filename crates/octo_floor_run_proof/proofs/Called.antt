@@ -11,7 +11,7 @@ use Rattle.job_desk.specs.declared.state.State.TheVariants as state
 use Rattle.octo_floor_bay.specs.Bay.{BayData}
 use Rattle.octo_floor_rules.specs.Events.{FloorHistory}
 use Rattle.octo_floor_step.specs.Counted.{one_if}
-use Rattle.octo_floor_step.specs.Objects.{LinkState}
+use Rattle.printer_link.specs.Calls.{LinkState}
 use Rattle.octo_floor_step.specs.Phases.{phase_in}
 use Rattle.octo_floor_round_proof.specs.Floor.{FloorData, IsFloor, Setting, AreUp}
 use Rattle.octo_floor_run_proof.specs.Leaving.{IsDisconnected, Leaves, disconnected_unless}

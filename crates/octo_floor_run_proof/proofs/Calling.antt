@@ -20,7 +20,7 @@ use Rattle.octo_session.specs.declared.found.Doing.TheVariants.{Dialling, Hangin
 use Rattle.octo_floor_bay.specs.Bay.{BayData}
 use Rattle.octo_floor_rules.specs.Events.{FloorHistory}
 use Rattle.octo_floor_step.specs.Counted.{one_if}
-use Rattle.octo_floor_step.specs.Objects.{LinkState}
+use Rattle.printer_link.specs.Calls.{LinkState}
 use Rattle.octo_floor_step.specs.Phases.{Phase, offline, connected, leaving, lost, phase_in, phase_of, phase_after, is_up_in, IsAtRest}
 use Rattle.octo_floor_step.specs.Step.{Begins, faulty, passed, started, not_free, nothing_fits, takes, IsStep}
 use Rattle.octo_floor_step.proofs.Turning.{phased_turn}

@@ -5,7 +5,7 @@ use Rattle.octo_outside.specs.Recorded.{last_count}
 use Rattle.printer_link.specs.Link.{RoseBy, counted_one}
 use Rattle.octo_session.specs.Steps.{Step, opens, finds_no_port, fails_to_dial, hears, listens, fails_to_receive, ticks, issues, gives, fails_to_send, hangs_up, calls_by, calls_after}
 use Rattle.printer_link.proofs.Calls.{rose_none, rose_next, rose_then}
-use Rattle.octo_floor_step.specs.Objects.{LinkState}
+use Rattle.printer_link.specs.Calls.{LinkState}
 use Rattle.octo_floor_run_proof.specs.Run.{both_calls, calls_of, AreCounting}
 use Rattle.octo_floor_round_proof.proofs.Places.{same_place, get_other, get_same, same_or}
 

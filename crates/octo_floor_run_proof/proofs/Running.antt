@@ -10,7 +10,8 @@ use Rattle.octo_floor_rules.specs.Events.{FloorHistory}
 use Rattle.octo_floor_rules.specs.declared.end.FloorFault.{FloorFault}
 use Rattle.octo_floor_rules.specs.declared.end.Why.{Why}
 use Rattle.octo_floor_step.specs.Ledger.{LedgerData}
-use Rattle.octo_floor_step.specs.Objects.{LinkState, StoreState, FaultsCame}
+use Rattle.printer_link.specs.Calls.{LinkState}
+use Rattle.octo_floor_step.specs.Objects.{StoreState, FaultsCame}
 use Rattle.octo_floor_step.specs.Phases.{IsAtRest}
 use Rattle.octo_floor_step.proofs.Faults.{none_came}
 use Rattle.octo_floor_round_proof.specs.Floor.{FloorData, IsFloor, Setting, setting, AreUp}

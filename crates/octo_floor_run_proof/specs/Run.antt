@@ -10,7 +10,7 @@ use Rattle.octo_floor_rules.specs.declared.end.Why.{Why}
 use Rattle.octo_floor_rules.specs.declared.end.Why.TheVariants as why
 use Rattle.octo_floor_stock.specs.Written.{most_records}
 use Rattle.octo_floor_step.specs.Counted.{is_done, is_failed}
-use Rattle.octo_floor_step.specs.Objects.{LinkState}
+use Rattle.printer_link.specs.Calls.{LinkState}
 use Rattle.octo_floor_step.specs.Phases.{Phase, offline, connected, leaving, lost, phase_of}
 use Rattle.octo_floor_round_proof.specs.Floor.{FloorData, Setting}
 

@@ -31,7 +31,8 @@ use Rattle.octo_floor_rules.specs.declared.event.FloorEvent.TheVariants.{Ended, 
 use Rattle.octo_floor_stock.specs.Files.{printable}
 use Rattle.octo_floor_stock.specs.Written.{most_records, row_of, written}
 use Rattle.octo_floor_step.specs.Ledger.{LedgerData, with_events, with_end_written, with_fault, noted_events, ended_events}
-use Rattle.octo_floor_step.specs.Objects.{LinkState, StoreState, FaultsCame}
+use Rattle.printer_link.specs.Calls.{LinkState}
+use Rattle.octo_floor_step.specs.Objects.{StoreState, FaultsCame}
 
 -- a turn of a bay over its link: what the session says of it, the deed that was added, and the prints that ended
 pub record IsBayTurn (moment : ℕ) (link link' : LinkState) (old new : BayData) (turned : Turned) : Type 0 where

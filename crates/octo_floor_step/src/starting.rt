@@ -100,12 +100,12 @@ impl Ledger {
         requires cool { first_hot_of bay.old.session.desk.limits job.commands ≡ None }
         requires room { length events.old.items < 24 }
         ensures does { (begun : FloorHistory) × (events.new.items ≡ events.old.items ++ begun)
-            × (IsStarted printer entry job (K.tables keeper.old) (K.tables keeper.new)
+            × (IsStarted printer entry job (K.state keeper.old).tables (K.state keeper.new).tables
             self.old self.new bay.old bay.new begun
-            ⊎ IsFaulty (K.tables keeper.old) (K.tables keeper.new)
+            ⊎ IsFaulty (K.state keeper.old).tables (K.state keeper.new).tables
             self.old self.new bay.old bay.new begun) }
         ensures faults { (shelf : ℕ) → FaultsCame self.old.fault self.new.fault
-            (K.faults keeper.old) (K.faults keeper.new) shelf shelf }
+            (K.state keeper.old).faults (K.state keeper.new).faults shelf shelf }
     {
         match self.stock.begin(keeper, &entry, job.count()) {
             Ok(row) => {
@@ -131,11 +131,11 @@ impl Ledger {
         requires number { bay.old.session.desk.greatest ≤ self.old.stock.records }
         requires room { length events.old.items < 24 }
         ensures takes { (begun : FloorHistory) × (events.new.items ≡ events.old.items ++ begun)
-            × Takes printer entry (S.files shelf.old) (K.tables keeper.old) (K.tables keeper.new)
+            × Takes printer entry (S.state shelf.old).files (K.state keeper.old).tables (K.state keeper.new).tables
             self.old self.new bay.old bay.new begun }
-        ensures files { S.files shelf.new ≡ S.files shelf.old }
+        ensures files { (S.state shelf.new).files ≡ (S.state shelf.old).files }
         ensures faults { FaultsCame self.old.fault self.new.fault
-            (K.faults keeper.old) (K.faults keeper.new) (S.faults shelf.old) (S.faults shelf.new) }
+            (K.state keeper.old).faults (K.state keeper.new).faults (S.state shelf.old).faults (S.state shelf.new).faults }
     {
         let limits = *bay.session().desk().limits();
         match read_entry(self.alloc, shelf, &entry.file, &limits) {
@@ -158,12 +158,12 @@ impl Ledger {
         requires number { bay.old.session.desk.greatest ≤ self.old.stock.records }
         requires room { length events.old.items < 24 }
         ensures begins { (begun : FloorHistory) × (events.new.items ≡ events.old.items ++ begun)
-            × Begins printer material.now (S.files shelf.old)
-            (K.tables keeper.old) (K.tables keeper.new)
+            × Begins printer material.now (S.state shelf.old).files
+            (K.state keeper.old).tables (K.state keeper.new).tables
             self.old self.new bay.old bay.new begun }
-        ensures files { S.files shelf.new ≡ S.files shelf.old }
+        ensures files { (S.state shelf.new).files ≡ (S.state shelf.old).files }
         ensures faults { FaultsCame self.old.fault self.new.fault
-            (K.faults keeper.old) (K.faults keeper.new) (S.faults shelf.old) (S.faults shelf.new) }
+            (K.state keeper.old).faults (K.state keeper.new).faults (S.state shelf.old).faults (S.state shelf.new).faults }
     {
         if !self.is_free(bay) {
             return;

@@ -3,7 +3,7 @@ ghost use Rattle.std.specs.Prelude.{◌≡◌, ◌<◌, ◌≤◌, ◌+◌, ◌+
 ghost use Rattle.octo_floor_rules.specs.Events.{FloorHistory, started_rows, endings};
 ghost use Rattle.octo_floor_step.specs.Counted.{one_if};
 ghost use Rattle.octo_floor_step.specs.Ledger.{ended_events};
-ghost use Rattle.octo_floor_step.specs.Objects.{FaultsCame, link_state, store_state};
+ghost use Rattle.octo_floor_step.specs.Objects.{FaultsCame, store_state};
 ghost use Rattle.octo_floor_step.specs.Step.{Writes, IsEndTold, IsStep};
 
 use crate::ledger::{EventList, Ledger};
@@ -18,10 +18,10 @@ use printer_link::Link;
 impl Ledger {
     // Has the keeper write how a print ended; a fault is kept.
     fn write<K: Keeper>(&mut self, keeper: &mut K, ending: Ending)
-        ensures writes { Writes ending (K.tables keeper.old) (K.tables keeper.new)
+        ensures writes { Writes ending (K.state keeper.old).tables (K.state keeper.new).tables
             self.old self.new }
         ensures faults { (shelf : ℕ) → FaultsCame self.old.fault self.new.fault
-            (K.faults keeper.old) (K.faults keeper.new) shelf shelf }
+            (K.state keeper.old).faults (K.state keeper.new).faults shelf shelf }
     {
         match write_end(self.alloc, keeper, ending) {
             Ok(()) => self.ends_written.add(&true),
@@ -43,11 +43,11 @@ impl Ledger {
         requires room { length events.old.items < 24 }
         requires begun { IfSome ending (λ _.
             length (endings self.old.history) < length (started_rows self.old.history)) }
-        ensures told { IsEndTold printer ending (K.tables keeper.old) (K.tables keeper.new)
+        ensures told { IsEndTold printer ending (K.state keeper.old).tables (K.state keeper.new).tables
             self.old self.new }
         ensures events { events.new.items ≡ events.old.items ++ ended_events printer ending }
         ensures faults { (shelf : ℕ) → FaultsCame self.old.fault self.new.fault
-            (K.faults keeper.old) (K.faults keeper.new) shelf shelf }
+            (K.state keeper.old).faults (K.state keeper.new).faults shelf shelf }
     {
         let Some(ending) = ending else {
             return;
@@ -70,17 +70,17 @@ impl Ledger {
         moment: u64,
         events: &mut EventList,
     ) -> bool
-        requires up { L.up link.old ≡ bay.old.session.up }
+        requires up { (L.state link.old).up ≡ bay.old.session.up }
         requires number { bay.old.session.desk.greatest ≤ self.old.stock.records }
         requires begun { length (endings self.old.history)
             + one_if bay.old.session.desk.active ≤ length (started_rows self.old.history) }
         requires room { length events.old.items ≤ 21 }
         ensures step { (added : FloorHistory) × (events.new.items ≡ events.old.items ++ added)
             × IsStep printer moment material.now
-            (link_state L.kind L.past L.calls L.up L.faults link.old)
-            (link_state L.kind L.past L.calls L.up L.faults link.new)
-            (store_state K.tables K.faults S.files S.faults keeper.old shelf.old)
-            (store_state K.tables K.faults S.files S.faults keeper.new shelf.new)
+            (L.state link.old)
+            (L.state link.new)
+            (store_state (K.state keeper.old) (S.state shelf.old))
+            (store_state (K.state keeper.new) (S.state shelf.new))
             self.old self.new bay.old bay.new result added }
         ensures few { length events.new.items ≤ length events.old.items + 3 }
     {

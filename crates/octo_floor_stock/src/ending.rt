@@ -13,9 +13,9 @@ use std::alloc::Global;
 /// Has the keeper write how a print ended. After a fault the tables are as they were.
 pub fn write_end<K: Keeper>(alloc: Global, keeper: &mut K, ending: Ending) -> Result<(), FloorFault>
     ensures ok { OnOk result ((printer : ℕ)
-        → K.tables keeper.new ≡ option_map (written (Ended printer ending)) (K.tables keeper.old)) }
-    ensures err { OnErr result (K.tables keeper.new ≡ K.tables keeper.old) }
-    ensures faults { AsksKeeper result (K.faults keeper.old) (K.faults keeper.new) }
+        → (K.state keeper.new).tables ≡ option_map (written (Ended printer ending)) (K.state keeper.old).tables) }
+    ensures err { OnErr result ((K.state keeper.new).tables ≡ (K.state keeper.old).tables) }
+    ensures faults { AsksKeeper result (K.state keeper.old).faults (K.state keeper.new).faults }
 {
     match keeper.commit(alloc, &Change::End(ending)) {
         Ok(()) => Ok(()),

@@ -32,14 +32,14 @@ pub fn read_entry<S: Shelf>(
     file: &Name,
     limits: &Limits,
 ) -> Result<Option<Job>, FloorFault>
-    ensures read { (files : List ShelfFile) → S.files shelf.old ≡ Some files
+    ensures read { (files : List ShelfFile) → (S.state shelf.old).files ≡ Some files
         → IfOk result (λ found. found ≡ printable limits.now file.now files) }
     ensures some { IfOk result (λ found. (files : List ShelfFile)
         × (found ≡ printable limits.now file.now files)) }
     ensures cool { IfOk result (λ found. IfSome found
         (λ job. first_hot_of limits.now job.commands ≡ None)) }
-    ensures stays { S.files shelf.new ≡ S.files shelf.old }
-    ensures faults { AsksShelf result (S.faults shelf.old) (S.faults shelf.new) }
+    ensures stays { (S.state shelf.new).files ≡ (S.state shelf.old).files }
+    ensures faults { AsksShelf result (S.state shelf.old).faults (S.state shelf.new).faults }
 {
     match read_job(alloc, shelf, file) {
         Ok(job) => Ok(unless_hot(job, limits)),

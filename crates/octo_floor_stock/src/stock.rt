@@ -101,10 +101,10 @@ impl FloorStock {
         ensures ok { IfOk result (λ row. (printer : ℕ)
             → self.new ≡ after_event (Started printer row entry.now) self.old) }
         ensures err { OnErr result (self.new ≡ self.old) }
-        ensures written { IfOk result (λ row. (printer : ℕ) → K.tables keeper.new
-            ≡ option_map (written (Started printer row entry.now)) (K.tables keeper.old)) }
-        ensures unwritten { OnErr result (K.tables keeper.new ≡ K.tables keeper.old) }
-        ensures faults { AsksKeeper result (K.faults keeper.old) (K.faults keeper.new) }
+        ensures written { IfOk result (λ row. (printer : ℕ) → (K.state keeper.new).tables
+            ≡ option_map (written (Started printer row entry.now)) (K.state keeper.old).tables) }
+        ensures unwritten { OnErr result ((K.state keeper.new).tables ≡ (K.state keeper.old).tables) }
+        ensures faults { AsksKeeper result (K.state keeper.old).faults (K.state keeper.new).faults }
     {
         let row = new_row(self.count + 1, &entry.user, &entry.file, commands as u32);
         let change = Change::Begin {

@@ -1,6 +1,7 @@
 -- What a request makes of a host and of its shelf.
 use Rattle.std.specs.Prelude.{◌≡◌, ◌⊎◌, ℕ, Bool, true, false, List, Option, Some}
 use Rattle.octo_outside.specs.Recorded.{Counts}
+use Rattle.octo_keeper.specs.Calls.{KeeperState, ShelfState}
 use Rattle.octo_keeper.specs.declared.shelf.ShelfFile.{ShelfFile}
 use Rattle.octo_keeper.specs.declared.tables.Tables.{Tables}
 use Rattle.octo_asks.specs.declared.answer.Answer.{Answer}
@@ -40,41 +41,35 @@ pub record IsUntouched {K S : Type 0} (was now : K) (held holds : S) (old new : 
   pub tables : tables_of new ≡ tables_of old
 
 -- what a request leaves beside its answer, by what keeper and shelf record and how often each has failed
-pub record AskDone {K S : Type 0} (tables : K → Option Tables) (faults : K → ℕ) (files : S → Option (List ShelfFile))
-    (shelf_faults : S → ℕ) (was now : K) (held holds : S) (x : Answer) (old new : House)
-    : Type 0 where
+pub record AskDone (was now : KeeperState) (held holds : ShelfState) (x : Answer) (old new : House) : Type 0 where
   -- the keeper's tables stay the host's, and the names those of the shelf's files
-  pub kept : KeepsRows (tables was) (tables now) old.tables new.tables
-  pub listed : IsListed (files held) old → IsListed (files holds) new
+  pub kept : KeepsRows was.tables now.tables old.tables new.tables
+  pub listed : IsListed held.files old → IsListed holds.files new
   -- the sender and the link stay, and so does the end that isn't written, unless a start writes it
   pub apart : IsApartFrom old new
   -- a fault is answered only if keeper or shelf counted it
-  pub keeper : Counts (is_keepers x ≡ true) (faults was) (faults now)
-  pub shelf : Counts (is_shelfs x ≡ true) (shelf_faults held) (shelf_faults holds)
+  pub keeper : Counts (is_keepers x ≡ true) was.faults now.faults
+  pub shelf : Counts (is_shelfs x ≡ true) held.faults holds.faults
 
 -- the same of a request that no shelf is asked for
-pub record KeeperDone {K : Type 0} (tables : K → Option Tables) (faults : K → ℕ) (was now : K) (x : Answer) (old new : House)
-    : Type 0 where
-  pub kept : KeepsRows (tables was) (tables now) old.tables new.tables
+pub record KeeperDone (was now : KeeperState) (x : Answer) (old new : House) : Type 0 where
+  pub kept : KeepsRows was.tables now.tables old.tables new.tables
   pub names : new.names.items ≡ old.names.items
   pub apart : IsApartFrom old new
-  pub keeper : Counts (is_keepers x ≡ true) (faults was) (faults now)
+  pub keeper : Counts (is_keepers x ≡ true) was.faults now.faults
   pub shelf : is_shelfs x ≡ false
 
 -- of a request that the shelf is only read for
-pub record PrintDone {K S : Type 0} (tables : K → Option Tables) (faults : K → ℕ) (files : S → Option (List ShelfFile))
-    (shelf_faults : S → ℕ) (was now : K) (held holds : S) (x : Answer) (old new : House)
-    : Type 0 where
-  pub kept : KeepsRows (tables was) (tables now) old.tables new.tables
+pub record PrintDone (was now : KeeperState) (held holds : ShelfState) (x : Answer) (old new : House) : Type 0 where
+  pub kept : KeepsRows was.tables now.tables old.tables new.tables
   pub names : new.names.items ≡ old.names.items
-  pub stays : files holds ≡ files held
+  pub stays : holds.files ≡ held.files
   pub apart : IsApartFrom old new
-  pub keeper : Counts (is_keepers x ≡ true) (faults was) (faults now)
-  pub shelf : Counts (is_shelfs x ≡ true) (shelf_faults held) (shelf_faults holds)
+  pub keeper : Counts (is_keepers x ≡ true) was.faults now.faults
+  pub shelf : Counts (is_shelfs x ≡ true) held.faults holds.faults
 
 -- and of one that also no keeper is asked for
-pub record ShelfDone {S : Type 0} (files : S → Option (List ShelfFile)) (shelf_faults : S → ℕ) (held holds : S) (x : Answer)
-    : Type 0 where
-  pub stays : files holds ≡ files held
-  pub shelf : Counts (is_shelfs x ≡ true) (shelf_faults held) (shelf_faults holds)
+pub record ShelfDone (held holds : ShelfState) (x : Answer) : Type 0 where
+  pub stays : holds.files ≡ held.files
+  pub shelf : Counts (is_shelfs x ≡ true) held.faults holds.faults
   pub keeper : is_keepers x ≡ false

@@ -79,20 +79,20 @@ fn see(house: &House, reconnect: &mut Reconnect, moment: u64)
 
 // Asks for a connection to the first port, as the host itself.
 fn connect<C: Counter>(house: &mut House, counter: &mut C, moment: u64)
-    requires open { C.closed counter.old ≡ false }
+    requires open { (C.state counter.old).closed ≡ false }
     ensures leads { (files : Option (List ShelfFile))
-        → Leads (C.past counter.old) (C.past counter.new)
+        → Leads (C.state counter.old).past (C.state counter.new).past
         files files moment house.old house.new }
-    ensures counted { Became (C.past counter.old) (C.past counter.new)
+    ensures counted { Became (C.state counter.old).past (C.state counter.new).past
         (λ _ added. AreOf None added) }
-    ensures asks { (keeper shelf : ℕ) → Became (C.past counter.old) (C.past counter.new)
+    ensures asks { (keeper shelf : ℕ) → Became (C.state counter.old).past (C.state counter.new).past
         (λ _ added. AsksAt moment keeper keeper shelf shelf added) }
-    ensures own { Became (C.past counter.old) (C.past counter.new)
+    ensures own { Became (C.state counter.old).past (C.state counter.new).past
         (λ _ added. own_moments added ≡ moment ∷ []) }
     ensures alone { IsDeskAlone house.old house.new }
-    ensures given { C.given counter.new ≡ C.given counter.old }
-    ensures closed { C.closed counter.new ≡ false }
-    ensures place { C.place counter.new ≡ C.place counter.old }
+    ensures given { (C.state counter.new).given ≡ (C.state counter.old).given }
+    ensures closed { (C.state counter.new).closed ≡ false }
+    ensures place { (C.state counter.new).place ≡ (C.state counter.old).place }
 {
     let answer = house.connect_itself();
     counter.own(moment, answer);
@@ -105,20 +105,20 @@ fn connect_if_due<C: Counter>(
     reconnect: &mut Reconnect,
     moment: u64,
 )
-    requires open { C.closed counter.old ≡ false }
+    requires open { (C.state counter.old).closed ≡ false }
     ensures leads { (files : Option (List ShelfFile))
-        → Leads (C.past counter.old) (C.past counter.new)
+        → Leads (C.state counter.old).past (C.state counter.new).past
         files files moment house.old house.new }
-    ensures counted { Became (C.past counter.old) (C.past counter.new)
+    ensures counted { Became (C.state counter.old).past (C.state counter.new).past
         (λ _ added. AreOf None added) }
-    ensures asks { (keeper shelf : ℕ) → Became (C.past counter.old) (C.past counter.new)
+    ensures asks { (keeper shelf : ℕ) → Became (C.state counter.old).past (C.state counter.new).past
         (λ _ added. AsksAt moment keeper keeper shelf shelf added) }
-    ensures own { Became (C.past counter.old) (C.past counter.new)
+    ensures own { Became (C.state counter.old).past (C.state counter.new).past
         (λ _ added. Looks moment reconnect.old reconnect.new added) }
     ensures alone { IsDeskAlone house.old house.new }
-    ensures given { C.given counter.new ≡ C.given counter.old }
-    ensures closed { C.closed counter.new ≡ false }
-    ensures place { C.place counter.new ≡ C.place counter.old }
+    ensures given { (C.state counter.new).given ≡ (C.state counter.old).given }
+    ensures closed { (C.state counter.new).closed ≡ false }
+    ensures place { (C.state counter.new).place ≡ (C.state counter.old).place }
 {
     see(house, reconnect, moment);
     if !is_due(house, *reconnect, moment) {
@@ -138,30 +138,30 @@ pub(crate) fn answer_next<C: Counter, K: Keeper, S: Shelf>(
     reconnect: &mut Reconnect,
     moment: u64,
 ) -> Option<Asked>
-    requires answered { C.given counter.old ≡ None }
-    requires open { C.closed counter.old ≡ false }
+    requires answered { (C.state counter.old).given ≡ None }
+    requires open { (C.state counter.old).closed ≡ false }
 
     // The history goes on.
-    ensures leads { Leads (C.past counter.old) (C.past counter.new)
-        (S.files shelf.old) (S.files shelf.new) moment house.old house.new }
-    ensures some { LeadsOnSome (C.past counter.old) (C.past counter.new)
+    ensures leads { Leads (C.state counter.old).past (C.state counter.new).past
+        (S.state shelf.old).files (S.state shelf.new).files moment house.old house.new }
+    ensures some { LeadsOnSome (C.state counter.old).past (C.state counter.new).past
         moment house.old house.new }
-    ensures counted { Became (C.past counter.old) (C.past counter.new)
+    ensures counted { Became (C.state counter.old).past (C.state counter.new).past
         (λ _ added. AreOf result added) }
-    ensures asks { Became (C.past counter.old) (C.past counter.new)
-        (λ _ added. AsksAt moment (K.faults keeper.old) (K.faults keeper.new)
-        (S.faults shelf.old) (S.faults shelf.new) added) }
+    ensures asks { Became (C.state counter.old).past (C.state counter.new).past
+        (λ _ added. AsksAt moment (K.state keeper.old).faults (K.state keeper.new).faults
+        (S.state shelf.old).faults (S.state shelf.new).faults added) }
 
     // A host's own call is in it only if that was due.
-    ensures own { AsksOfWorkers C.given → Became (C.past counter.old) (C.past counter.new)
+    ensures own { AsksOfWorkers (λ x. (C.state x).given) → Became (C.state counter.old).past (C.state counter.new).past
         (λ _ added. Looks moment reconnect.old reconnect.new added) }
 
     // What stays.
-    ensures rest { AskLeaves K.tables K.faults S.files S.faults
-        keeper.old keeper.new shelf.old shelf.new house.old house.new }
-    ensures given { C.given counter.new ≡ None }
-    ensures closed { C.closed counter.new ≡ false }
-    ensures place { C.place counter.new ≡ C.place counter.old }
+    ensures rest { AskLeaves (K.state keeper.old) (K.state keeper.new)
+        (S.state shelf.old) (S.state shelf.new) house.old house.new }
+    ensures given { (C.state counter.new).given ≡ None }
+    ensures closed { (C.state counter.new).closed ≡ false }
+    ensures place { (C.state counter.new).place ≡ (C.state counter.old).place }
 {
     match counter.next() {
         Next::Nothing => {
@@ -186,24 +186,24 @@ fn answer_ask<C: Counter, K: Keeper, S: Shelf>(
     ask: Ask,
     moment: u64,
 ) -> Asked
-    requires given { C.given counter.old ≡ Some (record { worker = worker; ask = ask }) }
-    requires open { C.closed counter.old ≡ false }
-    ensures leads { Leads (C.past counter.old) (C.past counter.new)
-        (S.files shelf.old) (S.files shelf.new) moment house.old house.new }
-    ensures some { LeadsOnSome (C.past counter.old) (C.past counter.new)
+    requires given { (C.state counter.old).given ≡ Some (record { worker = worker; ask = ask }) }
+    requires open { (C.state counter.old).closed ≡ false }
+    ensures leads { Leads (C.state counter.old).past (C.state counter.new).past
+        (S.state shelf.old).files (S.state shelf.new).files moment house.old house.new }
+    ensures some { LeadsOnSome (C.state counter.old).past (C.state counter.new).past
         moment house.old house.new }
-    ensures counted { Became (C.past counter.old) (C.past counter.new)
+    ensures counted { Became (C.state counter.old).past (C.state counter.new).past
         (λ _ added. AreOf (Some result) added) }
-    ensures asks { Became (C.past counter.old) (C.past counter.new)
-        (λ _ added. AsksAt moment (K.faults keeper.old) (K.faults keeper.new)
-        (S.faults shelf.old) (S.faults shelf.new) added) }
+    ensures asks { Became (C.state counter.old).past (C.state counter.new).past
+        (λ _ added. AsksAt moment (K.state keeper.old).faults (K.state keeper.new).faults
+        (S.state shelf.old).faults (S.state shelf.new).faults added) }
     ensures own { (worker == own_number) ≡ false
-        → Became (C.past counter.old) (C.past counter.new) (λ _ added. own_moments added ≡ []) }
-    ensures rest { AskLeaves K.tables K.faults S.files S.faults
-        keeper.old keeper.new shelf.old shelf.new house.old house.new }
-    ensures given { C.given counter.new ≡ None }
-    ensures closed { C.closed counter.new ≡ false }
-    ensures place { C.place counter.new ≡ C.place counter.old }
+        → Became (C.state counter.old).past (C.state counter.new).past (λ _ added. own_moments added ≡ []) }
+    ensures rest { AskLeaves (K.state keeper.old) (K.state keeper.new)
+        (S.state shelf.old) (S.state shelf.new) house.old house.new }
+    ensures given { (C.state counter.new).given ≡ None }
+    ensures closed { (C.state counter.new).closed ≡ false }
+    ensures place { (C.state counter.new).place ≡ (C.state counter.old).place }
 {
     let leaves = is_leave(&ask.request);
     let counts = is_counted(&ask.request);

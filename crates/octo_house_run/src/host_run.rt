@@ -50,66 +50,66 @@ pub fn run<R: Wait, C: Counter, L: Link, T: Clock, K: Keeper, S: Shelf>(
     connects: bool,
 ) -> u64
     requires fresh { IsFresh (session_of house.old) }
-    requires down { L.up link.old ≡ false }
+    requires down { (L.state link.old).up ≡ false }
     requires suits { SuitsAs (session_of house.old).sender.numbered
-        (L.past link.old) (L.kind link.old).oks }
-    requires answered { C.given counter.old ≡ None }
-    requires open { C.closed counter.old ≡ false }
+        (L.state link.old).past (L.state link.old).kind.oks }
+    requires answered { (C.state counter.old).given ≡ None }
+    requires open { (C.state counter.old).closed ≡ false }
 
     // The history is legal, and leads to the host and its files; the shelf's files are those that it names. If the shelf
     // records nothing, there are contents of it over which the history is legal.
-    ensures history { HasRun (C.past counter.old) (C.past counter.new)
-        (S.files shelf.old) (S.files shelf.new) house.old house.new }
-    ensures contents { HasRunOver (C.past counter.old) (C.past counter.new)
+    ensures history { HasRun (C.state counter.old).past (C.state counter.new).past
+        (S.state shelf.old).files (S.state shelf.new).files house.old house.new }
+    ensures contents { HasRunOver (C.state counter.old).past (C.state counter.new).past
         house.old house.new }
-    ensures listed { IsListed (S.files shelf.old) house.old
-        → IsListed (S.files shelf.new) house.new }
-    ensures kept { KeepsRows (K.tables keeper.old) (K.tables keeper.new)
+    ensures listed { IsListed (S.state shelf.old).files house.old
+        → IsListed (S.state shelf.new).files house.new }
+    ensures kept { KeepsRows (K.state keeper.old).tables (K.state keeper.new).tables
         (tables_of house.old) (tables_of house.new) }
 
     // So it keeps the laws: who was denied, what callers learned of each other, puts that were repeated, and the courses,
     // records and temperatures of prints.
-    ensures laws { RunKeepsLaws (C.past counter.old) (C.past counter.new)
-        (S.files shelf.old) house.old }
+    ensures laws { RunKeepsLaws (C.state counter.old).past (C.state counter.new).past
+        (S.state shelf.old).files house.old }
 
     // What the history says of the clock and of the link.
     ensures moments { ArePassed (T.moment clock.old) (T.moment clock.new)
-        (C.past counter.old) (C.past counter.new) }
-    ensures link_use { Shows (C.past counter.old) (C.past counter.new) (S.files shelf.old)
+        (C.state counter.old).past (C.state counter.new).past }
+    ensures link_use { Shows (C.state counter.old).past (C.state counter.new).past (S.state shelf.old).files
         (begins house.old)
-        (UsesLink (L.kind link.old).listed (L.calls link.old) (L.calls link.new)) }
-    ensures temps { Became (C.past counter.old) (C.past counter.new)
-        (λ _ added. NotesTemps (L.kind link.old) (L.past link.old) (L.past link.new) added) }
+        (UsesLink (L.state link.old).kind.listed (L.state link.old).calls (L.state link.new).calls) }
+    ensures temps { Became (C.state counter.old).past (C.state counter.new).past
+        (λ _ added. NotesTemps (L.state link.old).kind (L.state link.old).past (L.state link.new).past added) }
 
     // What was issued in each session is tied to what the printer executed in it, after every entry.
-    ensures tied { TiesLines (session_of house.old).sender.numbered (L.kind link.old)
-        (C.past counter.old) (C.past counter.new) (L.past link.old) (L.past link.new) }
+    ensures tied { TiesLines (session_of house.old).sender.numbered (L.state link.old).kind
+        (C.state counter.old).past (C.state counter.new).past (L.state link.old).past (L.state link.new).past }
 
     // What the printer made of each print, and what is said and sent of it.
-    ensures prints { RunKeepsPrints (L.kind link.old) (C.past counter.old) (C.past counter.new)
-        (S.files shelf.old) (L.past link.old) (L.past link.new) house.old }
+    ensures prints { RunKeepsPrints (L.state link.old).kind (C.state counter.old).past (C.state counter.new).past
+        (S.state shelf.old).files (L.state link.old).past (L.state link.new).past house.old }
 
     // When it connects by itself, at a counter whose asks have other numbers than its own calls.
-    ensures own { AsksOfWorkers C.given → Became (C.past counter.old) (C.past counter.new)
+    ensures own { AsksOfWorkers (λ x. (C.state x).given) → Became (C.state counter.old).past (C.state counter.new).past
         (λ _ added. ConnectsItself connects added) }
 
     // How it came to its end.
-    ensures over { Became (C.past counter.old) (C.past counter.new)
+    ensures over { Became (C.state counter.old).past (C.state counter.new).past
         (λ _ added. IsOver result (session_of house.new).desk.active added) }
-    ensures given { C.given counter.new ≡ None }
-    ensures closed { C.closed counter.new ≡ true }
-    ensures place { C.place counter.new ≡ C.place counter.old }
-    ensures down { L.up link.new ≡ false }
-    ensures kind { L.kind link.new ≡ L.kind link.old }
-    ensures recorded { is_some (L.past link.new) ≡ is_some (L.past link.old) }
+    ensures given { (C.state counter.new).given ≡ None }
+    ensures closed { (C.state counter.new).closed ≡ true }
+    ensures place { (C.state counter.new).place ≡ (C.state counter.old).place }
+    ensures down { (L.state link.new).up ≡ false }
+    ensures kind { (L.state link.new).kind ≡ (L.state link.old).kind }
+    ensures recorded { is_some (L.state link.new).past ≡ is_some (L.state link.old).past }
 
     // Faults, by their counts.
-    ensures faults { Became (C.past counter.old) (C.past counter.new)
-        (λ _ added. AreCounted (K.faults keeper.old) (K.faults keeper.new)
-        (S.faults shelf.old) (S.faults shelf.new) (L.faults link.old) (L.faults link.new) added) }
-    ensures link { L.faults link.old ≤ L.faults link.new }
-    ensures keeper { K.faults keeper.old ≤ K.faults keeper.new }
-    ensures shelf { S.faults shelf.old ≤ S.faults shelf.new }
+    ensures faults { Became (C.state counter.old).past (C.state counter.new).past
+        (λ _ added. AreCounted (K.state keeper.old).faults (K.state keeper.new).faults
+        (S.state shelf.old).faults (S.state shelf.new).faults (L.state link.old).faults (L.state link.new).faults added) }
+    ensures link { (L.state link.old).faults ≤ (L.state link.new).faults }
+    ensures keeper { (K.state keeper.old).faults ≤ (K.state keeper.new).faults }
+    ensures shelf { (S.state shelf.old).faults ≤ (S.state shelf.new).faults }
 {
     let mut tally = no_tally();
     let mut moment = 0;

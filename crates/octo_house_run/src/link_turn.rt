@@ -29,44 +29,44 @@ pub(crate) fn take_turn<C: Counter, L: Link, K: Keeper>(
     keeper: &mut K,
     moment: u64,
 ) -> bool
-    requires up { L.up link.old ≡ (session_of house.old).up }
-    requires answered { C.given counter.old ≡ None }
-    requires open { C.closed counter.old ≡ false }
+    requires up { (L.state link.old).up ≡ (session_of house.old).up }
+    requires answered { (C.state counter.old).given ≡ None }
+    requires open { (C.state counter.old).closed ≡ false }
 
     // The history goes on.
     ensures leads { (files : Option (List ShelfFile))
-        → Leads (C.past counter.old) (C.past counter.new)
+        → Leads (C.state counter.old).past (C.state counter.new).past
         files files moment house.old house.new }
-    ensures counted { Became (C.past counter.old) (C.past counter.new)
+    ensures counted { Became (C.state counter.old).past (C.state counter.new).past
         (λ _ added. AreOf None added) }
-    ensures turns { Became (C.past counter.old) (C.past counter.new)
-        (λ _ added. TurnsAt moment (L.kind link.old).listed (session_of house.old)
-        (L.calls link.old) (L.calls link.new) (L.faults link.old) (L.faults link.new) added) }
-    ensures temps { Became (C.past counter.old) (C.past counter.new)
-        (λ _ added. NotesTemps (L.kind link.old) (L.past link.old) (L.past link.new) added) }
+    ensures turns { Became (C.state counter.old).past (C.state counter.new).past
+        (λ _ added. TurnsAt moment (L.state link.old).kind.listed (session_of house.old)
+        (L.state link.old).calls (L.state link.new).calls (L.state link.old).faults (L.state link.new).faults added) }
+    ensures temps { Became (C.state counter.old).past (C.state counter.new).past
+        (λ _ added. NotesTemps (L.state link.old).kind (L.state link.old).past (L.state link.new).past added) }
 
     // Beside the link's history.
     ensures tied { (numbered : Bool) (before : Option History) (front : Option (List WorldEvent))
-        → InStep numbered (L.kind link.old) before (C.past counter.old) front (L.past link.old)
+        → InStep numbered (L.state link.old).kind before (C.state counter.old).past front (L.state link.old).past
         (session_of house.old)
-        → InStep numbered (L.kind link.old) before (C.past counter.new) front (L.past link.new)
+        → InStep numbered (L.state link.old).kind before (C.state counter.new).past front (L.state link.new).past
         (session_of house.new) }
 
     // What stays, and what the keeper has of it.
-    ensures kept { KeepsRows (K.tables keeper.old) (K.tables keeper.new)
+    ensures kept { KeepsRows (K.state keeper.old).tables (K.state keeper.new).tables
         (tables_of house.old) (tables_of house.new) }
     ensures listed { (files : Option (List ShelfFile)) → IsListed files house.old
         → IsListed files house.new }
-    ensures up { L.up link.new ≡ (session_of house.new).up }
-    ensures kind { L.kind link.new ≡ L.kind link.old }
-    ensures recorded { is_some (L.past link.new) ≡ is_some (L.past link.old) }
-    ensures given { C.given counter.new ≡ None }
-    ensures closed { C.closed counter.new ≡ false }
-    ensures place { C.place counter.new ≡ C.place counter.old }
+    ensures up { (L.state link.new).up ≡ (session_of house.new).up }
+    ensures kind { (L.state link.new).kind ≡ (L.state link.old).kind }
+    ensures recorded { is_some (L.state link.new).past ≡ is_some (L.state link.old).past }
+    ensures given { (C.state counter.new).given ≡ None }
+    ensures closed { (C.state counter.new).closed ≡ false }
+    ensures place { (C.state counter.new).place ≡ (C.state counter.old).place }
 
     // Faults, by their counts.
-    ensures link { L.faults link.old ≤ L.faults link.new }
-    ensures keeper { K.faults keeper.old ≤ K.faults keeper.new }
+    ensures link { (L.state link.old).faults ≤ (L.state link.new).faults }
+    ensures keeper { (K.state keeper.old).faults ≤ (K.state keeper.new).faults }
 {
     let was = house.session().desk().state();
     let turned = house.turn(link, keeper, moment);
@@ -82,12 +82,12 @@ fn note_turn<C: Counter>(
     moment: u64,
     note: Option<Note>,
 )
-    requires open { C.closed counter.old ≡ false }
+    requires open { (C.state counter.old).closed ≡ false }
     ensures notes { Notes moment (session_of house.now).sender.acked was
-        (session_of house.now).desk.state note (C.past counter.old) (C.past counter.new) }
-    ensures given { C.given counter.new ≡ C.given counter.old }
-    ensures closed { C.closed counter.new ≡ false }
-    ensures place { C.place counter.new ≡ C.place counter.old }
+        (session_of house.now).desk.state note (C.state counter.old).past (C.state counter.new).past }
+    ensures given { (C.state counter.new).given ≡ (C.state counter.old).given }
+    ensures closed { (C.state counter.new).closed ≡ false }
+    ensures place { (C.state counter.new).place ≡ (C.state counter.old).place }
 {
     match note {
         Some(note) => counter.note(note),
@@ -97,12 +97,12 @@ fn note_turn<C: Counter>(
 
 // Enters a change of the desk's state that made no note.
 fn note_change<C: Counter>(house: &House, counter: &mut C, was: State, moment: u64)
-    requires open { C.closed counter.old ≡ false }
+    requires open { (C.state counter.old).closed ≡ false }
     ensures notes { NotesChange moment (session_of house.now).sender.acked was
-        (session_of house.now).desk.state (C.past counter.old) (C.past counter.new) }
-    ensures given { C.given counter.new ≡ C.given counter.old }
-    ensures closed { C.closed counter.new ≡ false }
-    ensures place { C.place counter.new ≡ C.place counter.old }
+        (session_of house.now).desk.state (C.state counter.old).past (C.state counter.new).past }
+    ensures given { (C.state counter.new).given ≡ (C.state counter.old).given }
+    ensures closed { (C.state counter.new).closed ≡ false }
+    ensures place { (C.state counter.new).place ≡ (C.state counter.old).place }
 {
     let now = house.session().desk().state();
     if same(now, was) {

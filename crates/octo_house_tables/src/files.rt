@@ -32,14 +32,14 @@ pub fn read_bytes<S: Shelf>(
     name: &Name,
     fetched: Option<Fetched>,
 ) -> Result<Blob, Answer>
-    ensures read { (files : List ShelfFile) → S.files shelf.old ≡ Some files
+    ensures read { (files : List ShelfFile) → (S.state shelf.old).files ≡ Some files
         → IsReadAs (bytes_at name.now files) result }
     ensures some { IsReadOfSome (bytes_at name.now) result }
     ensures missed { IfErr result (λ x. (x ≡ answer.NoFile)
         ⊎ (x ≡ answer.ShelfFault) ⊎ (x ≡ answer.NoMemory)) }
-    ensures stays { S.files shelf.new ≡ S.files shelf.old }
+    ensures stays { (S.state shelf.new).files ≡ (S.state shelf.old).files }
     ensures shelf { Counts (is_shelfs_fault result ≡ true)
-        (S.faults shelf.old) (S.faults shelf.new) }
+        (S.state shelf.old).faults (S.state shelf.new).faults }
     ensures keeper { is_keepers_fault result ≡ false }
 {
     match shelf.get(alloc, name, fetched) {
@@ -51,14 +51,14 @@ pub fn read_bytes<S: Shelf>(
 
 /// The size of a file that the shelf holds, in bytes, or why there is none.
 pub fn read_size<S: Shelf>(shelf: &mut S, name: &Name) -> Result<u64, Answer>
-    ensures read { (files : List ShelfFile) → S.files shelf.old ≡ Some files
+    ensures read { (files : List ShelfFile) → (S.state shelf.old).files ≡ Some files
         → IsReadAs (size_at name.now files) result }
     ensures some { IsReadOfSome (size_at name.now) result }
     ensures missed { IfErr result (λ x. (x ≡ answer.NoFile)
         ⊎ (x ≡ answer.ShelfFault) ⊎ (x ≡ answer.NoMemory)) }
-    ensures stays { S.files shelf.new ≡ S.files shelf.old }
+    ensures stays { (S.state shelf.new).files ≡ (S.state shelf.old).files }
     ensures shelf { Counts (is_shelfs_fault result ≡ true)
-        (S.faults shelf.old) (S.faults shelf.new) }
+        (S.state shelf.old).faults (S.state shelf.new).faults }
     ensures keeper { is_keepers_fault result ≡ false }
 {
     match shelf.size(name) {
@@ -70,15 +70,15 @@ pub fn read_size<S: Shelf>(shelf: &mut S, name: &Name) -> Result<u64, Answer>
 
 /// The job of a file that the shelf holds, or why there is none.
 pub fn read_job<S: Shelf>(alloc: Global, shelf: &mut S, name: &Name) -> Result<Job, Answer>
-    ensures read { (files : List ShelfFile) → S.files shelf.old ≡ Some files
+    ensures read { (files : List ShelfFile) → (S.state shelf.old).files ≡ Some files
         → IsReadAs (job_at name.now files) result }
     ensures some { IsReadOfSome (job_at name.now) result }
     ensures missed { IfErr result (λ x. (x ≡ answer.NoFile)
         ⊎ (x ≡ answer.ShelfFault) ⊎ (x ≡ answer.NoMemory)
         ⊎ ((bad : FileFault) × (x ≡ answer.BadFile bad))) }
-    ensures stays { S.files shelf.new ≡ S.files shelf.old }
+    ensures stays { (S.state shelf.new).files ≡ (S.state shelf.old).files }
     ensures shelf { Counts (is_shelfs_fault result ≡ true)
-        (S.faults shelf.old) (S.faults shelf.new) }
+        (S.state shelf.old).faults (S.state shelf.new).faults }
     ensures keeper { is_keepers_fault result ≡ false }
 {
     let bytes = read_bytes(alloc, shelf, name, None)?;

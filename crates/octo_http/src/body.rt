@@ -21,16 +21,16 @@ fn read_length<C: Conn>(
     ensures body { IfOk result
         (λ body. (taken : List ℕ)
         × ((more : List ℕ) → ReadsBody (Framing.Length length) (taken ++ more) (Ok body))
-        × Took intake.old.bytes (C.left conn.old) intake.new.bytes (C.left conn.new) taken) }
+        × Took intake.old.bytes (C.state conn.old).left intake.new.bytes (C.state conn.new).left taken) }
     ensures stops { IfErr result
-        (Stops (IsBodyFault (Framing.Length length)) intake.old.bytes (C.left conn.old)
-        (C.left conn.new)) }
+        (Stops (IsBodyFault (Framing.Length length)) intake.old.bytes (C.state conn.old).left
+        (C.state conn.new).left) }
 
     // Counts, and what stays.
-    ensures caused { IfErr result (HasCause intake.new (C.faults conn.old) (C.faults conn.new)) }
-    ensures waits { Waits intake.old intake.new (C.faults conn.old) (C.faults conn.new)
-        (C.quiets conn.old) (C.quiets conn.new) }
-    ensures written { C.written conn.new ≡ C.written conn.old }
+    ensures caused { IfErr result (HasCause intake.new (C.state conn.old).faults (C.state conn.new).faults) }
+    ensures waits { Waits intake.old intake.new (C.state conn.old).faults (C.state conn.new).faults
+        (C.state conn.old).quiets (C.state conn.new).quiets }
+    ensures written { (C.state conn.new).written ≡ (C.state conn.old).written }
 {
     if length > MOST_BODY {
         return Err(MessageFault::BodyTooLarge);
@@ -49,15 +49,15 @@ pub(crate) fn read_body<C: Conn>(
 ) -> Result<Blob, MessageFault>
     ensures body { IfOk result
         (λ body. (taken : List ℕ) × ((more : List ℕ) → ReadsBody framing (taken ++ more) (Ok body))
-        × Took intake.old.bytes (C.left conn.old) intake.new.bytes (C.left conn.new) taken) }
+        × Took intake.old.bytes (C.state conn.old).left intake.new.bytes (C.state conn.new).left taken) }
     ensures stops { IfErr result
-        (Stops (IsBodyFault framing) intake.old.bytes (C.left conn.old) (C.left conn.new)) }
+        (Stops (IsBodyFault framing) intake.old.bytes (C.state conn.old).left (C.state conn.new).left) }
 
     // Counts, and what stays.
-    ensures caused { IfErr result (HasCause intake.new (C.faults conn.old) (C.faults conn.new)) }
-    ensures waits { Waits intake.old intake.new (C.faults conn.old) (C.faults conn.new)
-        (C.quiets conn.old) (C.quiets conn.new) }
-    ensures written { C.written conn.new ≡ C.written conn.old }
+    ensures caused { IfErr result (HasCause intake.new (C.state conn.old).faults (C.state conn.new).faults) }
+    ensures waits { Waits intake.old intake.new (C.state conn.old).faults (C.state conn.new).faults
+        (C.state conn.old).quiets (C.state conn.new).quiets }
+    ensures written { (C.state conn.new).written ≡ (C.state conn.old).written }
 {
     match framing {
         Framing::NoBody => Ok(Blob::new(alloc)),

@@ -31,15 +31,15 @@ fn read_chunk<C: Conn>(
 ) -> Result<Added, MessageFault>
     requires { length body.old ≤ most_body }
     ensures chunk { IfOk result (λ added. (taken : List ℕ) × AddsChunk body.old body.new added taken
-        × Took intake.old.bytes (C.left conn.old) intake.new.bytes (C.left conn.new) taken) }
+        × Took intake.old.bytes (C.state conn.old).left intake.new.bytes (C.state conn.new).left taken) }
     ensures stops { IfErr result
-        (Stops (IsChunkFault body.old) intake.old.bytes (C.left conn.old) (C.left conn.new)) }
+        (Stops (IsChunkFault body.old) intake.old.bytes (C.state conn.old).left (C.state conn.new).left) }
 
     // Counts, and what stays.
-    ensures caused { IfErr result (HasCause intake.new (C.faults conn.old) (C.faults conn.new)) }
-    ensures waits { Waits intake.old intake.new (C.faults conn.old) (C.faults conn.new)
-        (C.quiets conn.old) (C.quiets conn.new) }
-    ensures written { C.written conn.new ≡ C.written conn.old }
+    ensures caused { IfErr result (HasCause intake.new (C.state conn.old).faults (C.state conn.new).faults) }
+    ensures waits { Waits intake.old intake.new (C.state conn.old).faults (C.state conn.new).faults
+        (C.state conn.old).quiets (C.state conn.new).quiets }
+    ensures written { (C.state conn.new).written ≡ (C.state conn.old).written }
 {
     let size = read_part(intake, conn, Part::Line)?;
     if size == 0 {
@@ -62,15 +62,15 @@ pub(crate) fn read_chunks<C: Conn>(
 ) -> Result<Blob, MessageFault>
     ensures body { IfOk result
         (λ body. (taken : List ℕ) × ((more : List ℕ) → Chunked [] (taken ++ more) (Ok body))
-        × Took intake.old.bytes (C.left conn.old) intake.new.bytes (C.left conn.new) taken) }
+        × Took intake.old.bytes (C.state conn.old).left intake.new.bytes (C.state conn.new).left taken) }
     ensures stops { IfErr result
-        (Stops (IsChunkFault []) intake.old.bytes (C.left conn.old) (C.left conn.new)) }
+        (Stops (IsChunkFault []) intake.old.bytes (C.state conn.old).left (C.state conn.new).left) }
 
     // Counts, and what stays.
-    ensures caused { IfErr result (HasCause intake.new (C.faults conn.old) (C.faults conn.new)) }
-    ensures waits { Waits intake.old intake.new (C.faults conn.old) (C.faults conn.new)
-        (C.quiets conn.old) (C.quiets conn.new) }
-    ensures written { C.written conn.new ≡ C.written conn.old }
+    ensures caused { IfErr result (HasCause intake.new (C.state conn.old).faults (C.state conn.new).faults) }
+    ensures waits { Waits intake.old intake.new (C.state conn.old).faults (C.state conn.new).faults
+        (C.state conn.old).quiets (C.state conn.new).quiets }
+    ensures written { (C.state conn.new).written ≡ (C.state conn.old).written }
 {
     let mut body = Blob::new(alloc);
     'chunks: loop {

@@ -126,16 +126,16 @@ impl Intake {
         requires room { 0 < length buffer.old }
         // What came follows what was at hand.
         ensures took { OnOk result
-            (Took self.old.bytes (C.left conn.old) self.new.bytes (C.left conn.new) []) }
+            (Took self.old.bytes (C.state conn.old).left self.new.bytes (C.state conn.new).left []) }
         ensures brings { IfOk result (λ came. Brings came self.old self.new) }
         ensures knows { IfOk result
-            (λ came. Knows came self.new [] self.old.bytes (C.left conn.old) (C.faults conn.old)
-            (C.faults conn.new)) }
+            (λ came. Knows came self.new [] self.old.bytes (C.state conn.old).left (C.state conn.old).faults
+            (C.state conn.new).faults) }
 
         // Counts, and what stays.
-        ensures waits { Waits self.old self.new (C.faults conn.old) (C.faults conn.new)
-            (C.quiets conn.old) (C.quiets conn.new) }
-        ensures written { C.written conn.new ≡ C.written conn.old }
+        ensures waits { Waits self.old self.new (C.state conn.old).faults (C.state conn.new).faults
+            (C.state conn.old).quiets (C.state conn.new).quiets }
+        ensures written { (C.state conn.new).written ≡ (C.state conn.old).written }
     {
         match conn.read(buffer) {
             Ok(Got::Bytes(n)) => {
@@ -156,16 +156,16 @@ impl Intake {
         requires { 0 < self.old.allowed }
         // What came follows what was at hand.
         ensures took { OnOk result
-            (Took self.old.bytes (C.left conn.old) self.new.bytes (C.left conn.new) []) }
+            (Took self.old.bytes (C.state conn.old).left self.new.bytes (C.state conn.new).left []) }
         ensures brings { IfOk result (λ came. Brings came self.old self.new) }
         ensures knows { IfOk result
-            (λ came. Knows came self.new [] self.old.bytes (C.left conn.old) (C.faults conn.old)
-            (C.faults conn.new)) }
+            (λ came. Knows came self.new [] self.old.bytes (C.state conn.old).left (C.state conn.old).faults
+            (C.state conn.new).faults) }
 
         // Counts, and what stays.
-        ensures waits { Waits self.old self.new (C.faults conn.old) (C.faults conn.new)
-            (C.quiets conn.old) (C.quiets conn.new) }
-        ensures written { C.written conn.new ≡ C.written conn.old }
+        ensures waits { Waits self.old self.new (C.state conn.old).faults (C.state conn.new).faults
+            (C.state conn.old).quiets (C.state conn.new).quiets }
+        ensures written { (C.state conn.new).written ≡ (C.state conn.old).written }
     {
         let mut buffer = [0; READ];
         self.fetch_through(conn, &mut buffer)
@@ -176,16 +176,16 @@ impl Intake {
         requires { 0 < self.old.allowed }
         // What came follows what was at hand.
         ensures took { OnOk result
-            (Took self.old.bytes (C.left conn.old) self.new.bytes (C.left conn.new) []) }
+            (Took self.old.bytes (C.state conn.old).left self.new.bytes (C.state conn.new).left []) }
         ensures brings { IfOk result (λ came. Brings came self.old self.new) }
         ensures knows { IfOk result
-            (λ came. Knows came self.new [] self.old.bytes (C.left conn.old) (C.faults conn.old)
-            (C.faults conn.new)) }
+            (λ came. Knows came self.new [] self.old.bytes (C.state conn.old).left (C.state conn.old).faults
+            (C.state conn.new).faults) }
 
         // Counts, and what stays.
-        ensures waits { Waits self.old self.new (C.faults conn.old) (C.faults conn.new)
-            (C.quiets conn.old) (C.quiets conn.new) }
-        ensures written { C.written conn.new ≡ C.written conn.old }
+        ensures waits { Waits self.old self.new (C.state conn.old).faults (C.state conn.new).faults
+            (C.state conn.old).quiets (C.state conn.new).quiets }
+        ensures written { (C.state conn.new).written ≡ (C.state conn.old).written }
     {
         let mut buffer = [0; MUCH];
         self.fetch_through(conn, &mut buffer)
@@ -200,16 +200,16 @@ impl Intake {
         requires { 0 < self.old.allowed }
         // What came follows what was at hand.
         ensures took { OnOk result
-            (Took self.old.bytes (C.left conn.old) self.new.bytes (C.left conn.new) []) }
+            (Took self.old.bytes (C.state conn.old).left self.new.bytes (C.state conn.new).left []) }
         ensures brings { IfOk result (λ came. Brings came self.old self.new) }
         ensures knows { IfOk result
-            (λ came. Knows came self.new [] self.old.bytes (C.left conn.old) (C.faults conn.old)
-            (C.faults conn.new)) }
+            (λ came. Knows came self.new [] self.old.bytes (C.state conn.old).left (C.state conn.old).faults
+            (C.state conn.new).faults) }
 
         // Counts, and what stays.
-        ensures waits { Waits self.old self.new (C.faults conn.old) (C.faults conn.new)
-            (C.quiets conn.old) (C.quiets conn.new) }
-        ensures written { C.written conn.new ≡ C.written conn.old }
+        ensures waits { Waits self.old self.new (C.state conn.old).faults (C.state conn.new).faults
+            (C.state conn.old).quiets (C.state conn.new).quiets }
+        ensures written { (C.state conn.new).written ≡ (C.state conn.old).written }
     {
         if due > READ {
             return self.fetch_much(conn);

@@ -80,12 +80,12 @@ fn continue_due(head: &Head) -> &'static [u8]
 // Sends `100 Continue`, if the client waits for it.
 fn send_continue<C: Conn>(conn: &mut C, head: &Head) -> Result<(), Failed>
     ensures ok { OnOk result
-        (Adds (C.written conn.old) (C.written conn.new) (continue_due head.now)) }
+        (Adds (C.state conn.old).written (C.state conn.new).written (continue_due head.now)) }
     ensures err { OnErr result
-        (AddsPrefix (C.written conn.old) (C.written conn.new) (continue_due head.now)) }
-    ensures left { C.left conn.new ≡ C.left conn.old }
-    ensures quiets { C.quiets conn.new ≡ C.quiets conn.old }
-    ensures counts { Counts (IsErr result) (C.faults conn.old) (C.faults conn.new) }
+        (AddsPrefix (C.state conn.old).written (C.state conn.new).written (continue_due head.now)) }
+    ensures left { (C.state conn.new).left ≡ (C.state conn.old).left }
+    ensures quiets { (C.state conn.new).quiets ≡ (C.state conn.old).quiets }
+    ensures counts { Counts (IsErr result) (C.state conn.old).faults (C.state conn.new).faults }
 {
     send_all(conn, continue_due(head))?;
     Ok(())
@@ -126,19 +126,19 @@ pub fn read_begin<C: Conn>(
     patience: u32,
 ) -> Result<Begun, MessageFault>
     // What the input begins with, or why it begins with no head.
-    ensures begun { IfOk result (λ begun. (input : List ℕ) → C.left conn.old ≡ Some input
-        → Begins input (C.left conn.new) begun) }
-    ensures stopped { IfErr result (λ fault. (input : List ℕ) → C.left conn.old ≡ Some input
-        → IsFaultOf HeadFault input (C.left conn.new) fault) }
-    ensures written { C.written conn.new ≡ C.written conn.old }
+    ensures begun { IfOk result (λ begun. (input : List ℕ) → (C.state conn.old).left ≡ Some input
+        → Begins input (C.state conn.new).left begun) }
+    ensures stopped { IfErr result (λ fault. (input : List ℕ) → (C.state conn.old).left ≡ Some input
+        → IsFaultOf HeadFault input (C.state conn.new).left fault) }
+    ensures written { (C.state conn.new).written ≡ (C.state conn.old).written }
 
     // Counts.
     ensures patience { IfOk result (λ begun. begun.intake.patience ≡ patience) }
-    ensures waited { IfOk result (λ begun. HasWaited (C.quiets conn.old) begun (C.quiets conn.new)) }
-    ensures patient { IfErr result (λ fault. IsPatient patience (C.quiets conn.old)
-        (C.quiets conn.new) (Err fault)) }
+    ensures waited { IfOk result (λ begun. HasWaited (C.state conn.old).quiets begun (C.state conn.new).quiets) }
+    ensures patient { IfErr result (λ fault. IsPatient patience (C.state conn.old).quiets
+        (C.state conn.new).quiets (Err fault)) }
     ensures counts { Counts (IsErrOf result MessageFault.ReadFault)
-        (C.faults conn.old) (C.faults conn.new) }
+        (C.state conn.old).faults (C.state conn.new).faults }
 {
     let mut intake = Intake::new(alloc, patience);
     let head = read_head(alloc, &mut intake, conn)?;
@@ -154,17 +154,17 @@ pub fn read_rest<C: Conn>(
     conn: &mut C,
     begun: Begun,
 ) -> Result<Message, MessageFault>
-    ensures answer { (input : List ℕ) → Begins input (C.left conn.old) begun
-        → Writes (C.written conn.old) (C.written conn.new)
-        (Answers input (C.left conn.new) result) }
+    ensures answer { (input : List ℕ) → Begins input (C.state conn.old).left begun
+        → Writes (C.state conn.old).written (C.state conn.new).written
+        (Answers input (C.state conn.new).left result) }
     ensures head { IfOk result (λ m. IsOfHead begun.head m) }
-    ensures bounded { AddsPrefix (C.written conn.old) (C.written conn.new) continue_line }
+    ensures bounded { AddsPrefix (C.state conn.old).written (C.state conn.new).written continue_line }
 
     // Counts.
-    ensures patient { (before : ℕ) → HasWaited before begun (C.quiets conn.old)
-        → IsPatient begun.intake.patience before (C.quiets conn.new) result }
+    ensures patient { (before : ℕ) → HasWaited before begun (C.state conn.old).quiets
+        → IsPatient begun.intake.patience before (C.state conn.new).quiets result }
     ensures counts { Counts (IsErrOf result MessageFault.ReadFault)
-        (C.faults conn.old) (C.faults conn.new) }
+        (C.state conn.old).faults (C.state conn.new).faults }
 {
     let Begun { head, intake } = begun;
     let mut intake = intake;
@@ -187,15 +187,15 @@ pub fn read_message<C: Conn>(
     patience: u32,
 ) -> Result<Message, MessageFault>
     // What the input says is answered, and `100 Continue` is written before the body is read.
-    ensures answer { (input : List ℕ) → C.left conn.old ≡ Some input
-        → Writes (C.written conn.old) (C.written conn.new)
-        (Answers input (C.left conn.new) result) }
-    ensures bounded { AddsPrefix (C.written conn.old) (C.written conn.new) continue_line }
+    ensures answer { (input : List ℕ) → (C.state conn.old).left ≡ Some input
+        → Writes (C.state conn.old).written (C.state conn.new).written
+        (Answers input (C.state conn.new).left result) }
+    ensures bounded { AddsPrefix (C.state conn.old).written (C.state conn.new).written continue_line }
 
     // Counts.
-    ensures patient { IsPatient patience (C.quiets conn.old) (C.quiets conn.new) result }
+    ensures patient { IsPatient patience (C.state conn.old).quiets (C.state conn.new).quiets result }
     ensures counts { Counts (IsErrOf result MessageFault.ReadFault)
-        (C.faults conn.old) (C.faults conn.new) }
+        (C.state conn.old).faults (C.state conn.new).faults }
 {
     let begun = read_begin(alloc, conn, patience)?;
     read_rest(alloc, conn, begun)

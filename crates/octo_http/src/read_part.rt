@@ -46,15 +46,15 @@ pub(crate) fn read_part<C: Conn>(
     part: Part,
 ) -> Result<u64, MessageFault>
     ensures part { IfOk result (λ n. (taken : List ℕ) × IsPart part taken n
-        × Took intake.old.bytes (C.left conn.old) intake.new.bytes (C.left conn.new) taken) }
+        × Took intake.old.bytes (C.state conn.old).left intake.new.bytes (C.state conn.new).left taken) }
     ensures stops { IfErr result
-        (Stops (PartFault part) intake.old.bytes (C.left conn.old) (C.left conn.new)) }
+        (Stops (PartFault part) intake.old.bytes (C.state conn.old).left (C.state conn.new).left) }
 
     // Counts, and what stays.
-    ensures caused { IfErr result (HasCause intake.new (C.faults conn.old) (C.faults conn.new)) }
-    ensures waits { Waits intake.old intake.new (C.faults conn.old) (C.faults conn.new)
-        (C.quiets conn.old) (C.quiets conn.new) }
-    ensures written { C.written conn.new ≡ C.written conn.old }
+    ensures caused { IfErr result (HasCause intake.new (C.state conn.old).faults (C.state conn.new).faults) }
+    ensures waits { Waits intake.old intake.new (C.state conn.old).faults (C.state conn.new).faults
+        (C.state conn.old).quiets (C.state conn.new).quiets }
+    ensures written { (C.state conn.new).written ≡ (C.state conn.old).written }
 {
     let mut looks = Looks::new();
     let mut came = Came::Quiet;

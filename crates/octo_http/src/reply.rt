@@ -168,13 +168,13 @@ pub fn write_reply<C: Conn>(
     reply: &HttpReply,
     more: &FieldLines,
 ) -> Result<(), Failed>
-    ensures ok { OnOk result (Adds (C.written conn.old) (C.written conn.new)
+    ensures ok { OnOk result (Adds (C.state conn.old).written (C.state conn.new).written
         (reply_bytes (with_fields more.now.items reply.now))) }
-    ensures err { OnErr result (AddsPrefix (C.written conn.old) (C.written conn.new)
+    ensures err { OnErr result (AddsPrefix (C.state conn.old).written (C.state conn.new).written
         (reply_bytes (with_fields more.now.items reply.now))) }
-    ensures left { C.left conn.new ≡ C.left conn.old }
-    ensures quiets { C.quiets conn.new ≡ C.quiets conn.old }
-    ensures counts { Counts (IsErr result) (C.faults conn.old) (C.faults conn.new) }
+    ensures left { (C.state conn.new).left ≡ (C.state conn.old).left }
+    ensures quiets { (C.state conn.new).quiets ≡ (C.state conn.old).quiets }
+    ensures counts { Counts (IsErr result) (C.state conn.old).faults (C.state conn.new).faults }
 {
     let body = sent_body(reply);
     let head = head_of(reply, body.len(), more);
@@ -188,13 +188,13 @@ pub fn write_reply<C: Conn>(
 /// Writes a reply with more fields and without its body, as it is sent to `HEAD`: the length is that of the body. After a
 /// failed call a prefix was written. Source: RFC 9110, section 9.3.2.
 pub fn write_head<C: Conn>(conn: &mut C, reply: &HttpReply, more: &FieldLines) -> Result<(), Failed>
-    ensures ok { OnOk result (Adds (C.written conn.old) (C.written conn.new)
+    ensures ok { OnOk result (Adds (C.state conn.old).written (C.state conn.new).written
         (reply_head (with_fields more.now.items reply.now))) }
-    ensures err { OnErr result (AddsPrefix (C.written conn.old) (C.written conn.new)
+    ensures err { OnErr result (AddsPrefix (C.state conn.old).written (C.state conn.new).written
         (reply_head (with_fields more.now.items reply.now))) }
-    ensures left { C.left conn.new ≡ C.left conn.old }
-    ensures quiets { C.quiets conn.new ≡ C.quiets conn.old }
-    ensures counts { Counts (IsErr result) (C.faults conn.old) (C.faults conn.new) }
+    ensures left { (C.state conn.new).left ≡ (C.state conn.old).left }
+    ensures quiets { (C.state conn.new).quiets ≡ (C.state conn.old).quiets }
+    ensures counts { Counts (IsErr result) (C.state conn.old).faults (C.state conn.new).faults }
 {
     let count = sent_body(reply).len();
     let lines = head_of(reply, count, more);

@@ -64,11 +64,11 @@ impl Keeper for MemoryKeeper {
     ghost use Rattle.octo_keeper.specs.Memory.{KeeperData, fails_next, after_call};
     ghost use Rattle.octo_keeper.specs.Sound.{are_sound};
 
-    ghost tables = { λ k. Some k.tables };
-
-    ghost saved = { λ k. k.saved };
-
-    ghost faults = { λ k. k.calls.faults };
+    ghost state = { λ k. record {
+      tables = Some k.tables;
+      saved = k.saved;
+      faults = k.calls.faults;
+    } };
 
     fn load(&mut self, alloc: Global) -> Result<Tables, KeeperFault>
         ensures ok { IfOk result (λ loaded. loaded ≡ self.old.tables) }

@@ -46,9 +46,7 @@ impl Shelf for MemoryShelf {
 
     type Stager = NoStager;
 
-    ghost files = { λ s. Some s.files };
-
-    ghost faults = { λ s. s.calls.faults };
+    ghost state = { λ s. record { files = Some s.files; faults = s.calls.faults } };
 
     fn list(&mut self, alloc: Global) -> Result<FileList, ShelfFault>
         ensures ok { IfOk result (λ list. list ≡ sizes_of self.old.files) }

@@ -11,11 +11,11 @@ use std::alloc::Global;
 // Stores that this print has failed, if its record reads as going on.
 fn settle_print<K: Keeper>(alloc: Global, keeper: &mut K, row: &PrintRow) -> Result<(), KeeperFault>
     ensures ok { OnOk result
-        (K.tables keeper.new ≡ option_map (settled_by row.now) (K.tables keeper.old)) }
-    ensures err { OnErr result (K.tables keeper.new ≡ K.tables keeper.old) }
+        ((K.state keeper.new).tables ≡ option_map (settled_by row.now) (K.state keeper.old).tables) }
+    ensures err { OnErr result ((K.state keeper.new).tables ≡ (K.state keeper.old).tables) }
 
-    ensures counts { Counts (IsErrOf result fault.Failed) (K.faults keeper.old) (K.faults keeper.new) }
-    ensures steady { (IsErrOf result fault.Failed → ⊥) → K.faults keeper.new ≡ K.faults keeper.old }
+    ensures counts { Counts (IsErrOf result fault.Failed) (K.state keeper.old).faults (K.state keeper.new).faults }
+    ensures steady { (IsErrOf result fault.Failed → ⊥) → (K.state keeper.new).faults ≡ (K.state keeper.old).faults }
 {
     match row.outcome {
         Outcome::Active => keeper.commit(
@@ -35,12 +35,12 @@ fn settle_print<K: Keeper>(alloc: Global, keeper: &mut K, row: &PrintRow) -> Res
 /// Each end is one commit. In tables that hosts wrote at most one record reads as going on. After a fault the first records, up to
 /// one of them, are settled; a host on the tables shows the same records then, and the next call settles the others.
 pub fn settle_prints<K: Keeper>(alloc: Global, keeper: &mut K) -> Result<(), KeeperFault>
-    ensures settled { OnOk result (K.tables keeper.new ≡ option_map settled (K.tables keeper.old)) }
+    ensures settled { OnOk result ((K.state keeper.new).tables ≡ option_map settled (K.state keeper.old).tables) }
     ensures stopped { OnErr result
-        ((n : ℕ) × (K.tables keeper.new ≡ option_map (settled_to n) (K.tables keeper.old))) }
+        ((n : ℕ) × ((K.state keeper.new).tables ≡ option_map (settled_to n) (K.state keeper.old).tables)) }
 
-    ensures counts { Counts (IsErrOf result fault.Failed) (K.faults keeper.old) (K.faults keeper.new) }
-    ensures steady { (IsErrOf result fault.Failed → ⊥) → K.faults keeper.new ≡ K.faults keeper.old }
+    ensures counts { Counts (IsErrOf result fault.Failed) (K.state keeper.old).faults (K.state keeper.new).faults }
+    ensures steady { (IsErrOf result fault.Failed → ⊥) → (K.state keeper.new).faults ≡ (K.state keeper.old).faults }
 {
     let tables = keeper.load(alloc)?;
     for row in tables.prints.as_slice() {

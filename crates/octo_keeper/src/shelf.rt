@@ -53,26 +53,17 @@ pub trait Shelf {
     /// What writes bytes beside these files, and reads them.
     type Stager: Stager + Send + Drop;
 
-    ghost use Rattle.std.specs.Prelude.{◌≡◌, ℕ, List, Option, option_map, IfOk, IfSome, OnOk, OnErr, IsErrOf};
-    ghost use Rattle.octo_outside.specs.Recorded.{Counts};
-    ghost use Rattle.octo_keeper.specs.declared.shelf.ShelfFile.{ShelfFile};
-    ghost use Rattle.octo_keeper.specs.declared.shelf.ShelfFault.TheVariants as fault;
+    ghost use Rattle.std.specs.Prelude.{◌≡◌, IfOk};
+    ghost use Rattle.octo_keeper.specs.Calls.{ShelfState, Looks, Changes};
     ghost use Rattle.octo_keeper.specs.Files.{bytes_of, size_of, sizes_of, with_file, without_file};
 
-    /// The files by name, if the shelf records them: `None` for a real folder.
-    ghost files: { Self → Option (List ShelfFile) };
-
-    /// How many calls failed.
-    ghost faults: { Self → ℕ };
+    /// What it says of itself: the files by name, `None` for a real folder, and how many calls failed.
+    ghost state: { Self → ShelfState };
 
     /// The names of all files with their sizes in bytes, by name. `Failed` if the shelf fails, `NoMemory` if memory runs
     /// out.
     fn list(&mut self, alloc: Global) -> Result<FileList, ShelfFault>
-        ensures ok { IfOk result (λ list. IfSome (files self.old) (λ held. list ≡ sizes_of held)) }
-        ensures stays { files self.new ≡ files self.old }
-
-        ensures counts { Counts (IsErrOf result fault.Failed) (faults self.old) (faults self.new) }
-        ensures steady { (IsErrOf result fault.Failed → ⊥) → faults self.new ≡ faults self.old };
+        ensures { Looks (state self.old) sizes_of result (state self.new) };
 
     /// The bytes of a file, `None` if there is no file of that name. If a stager has read them, what it fetched is given, and
     /// the shelf may take that and read nothing, if the file is still the same. Fails as `list` does.
@@ -82,21 +73,11 @@ pub trait Shelf {
         name: &Name,
         fetched: Option<Fetched>,
     ) -> Result<Option<Blob>, ShelfFault>
-        ensures ok { IfOk result
-            (λ bytes. IfSome (files self.old) (λ held. bytes ≡ bytes_of name.now held)) }
-        ensures stays { files self.new ≡ files self.old }
-
-        ensures counts { Counts (IsErrOf result fault.Failed) (faults self.old) (faults self.new) }
-        ensures steady { (IsErrOf result fault.Failed → ⊥) → faults self.new ≡ faults self.old };
+        ensures { Looks (state self.old) (bytes_of name.now) result (state self.new) };
 
     /// The size of a file in bytes, `None` if there is no file of that name. Reads none of them. Fails as `list` does.
     fn size(&mut self, name: &Name) -> Result<Option<u64>, ShelfFault>
-        ensures ok { IfOk result
-            (λ size. IfSome (files self.old) (λ held. size ≡ size_of name.now held)) }
-        ensures stays { files self.new ≡ files self.old }
-
-        ensures counts { Counts (IsErrOf result fault.Failed) (faults self.old) (faults self.new) }
-        ensures steady { (IsErrOf result fault.Failed → ⊥) → faults self.new ≡ faults self.old };
+        ensures { Looks (state self.old) (size_of name.now) result (state self.new) };
 
     /// A stager of that number. It begins with no part: one that was left under its number is removed. Fails if out of memory.
     fn stager(&self, number: u8) -> Result<Self::Stager, AllocError>
@@ -111,19 +92,9 @@ pub trait Shelf {
         bytes: &[u8],
         part: Option<u8>,
     ) -> Result<(), ShelfFault>
-        ensures ok { OnOk result
-            (files self.new ≡ option_map (with_file name.now bytes.now) (files self.old)) }
-        ensures err { OnErr result (files self.new ≡ files self.old) }
-
-        ensures counts { Counts (IsErrOf result fault.Failed) (faults self.old) (faults self.new) }
-        ensures steady { (IsErrOf result fault.Failed → ⊥) → faults self.new ≡ faults self.old };
+        ensures { Changes (state self.old) (with_file name.now bytes.now) result (state self.new) };
 
     /// Takes the file of that name alone out, if there is one. Fails as `list` does; then the files are as before.
     fn remove(&mut self, alloc: Global, name: &Name) -> Result<(), ShelfFault>
-        ensures ok { OnOk result
-            (files self.new ≡ option_map (without_file name.now) (files self.old)) }
-        ensures err { OnErr result (files self.new ≡ files self.old) }
-
-        ensures counts { Counts (IsErrOf result fault.Failed) (faults self.old) (faults self.new) }
-        ensures steady { (IsErrOf result fault.Failed → ⊥) → faults self.new ≡ faults self.old };
+        ensures { Changes (state self.old) (without_file name.now) result (state self.new) };
 }

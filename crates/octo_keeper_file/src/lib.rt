@@ -46,11 +46,7 @@ impl Keeper for FileKeeper {
     ghost use Rattle.octo_keeper_sql.specs.Loads.{FailsToLoad, IsUnsound, LacksMemory, Loads};
     ghost use Rattle.octo_keeper_sql.specs.Statements.{Commits, FailsToWrite, RanInTurn, statements};
 
-    ghost tables = { λ _. None };
-
-    ghost saved = { λ _. None };
-
-    ghost faults = { λ k. k.database.faults };
+    ghost state = { λ k. record { tables = None; saved = None; faults = k.database.faults } };
 
     fn load(&mut self, alloc: Global) -> Result<Tables, KeeperFault>
         ensures sound { IfOk result AreSound }

@@ -105,9 +105,7 @@ impl<R: Files + AllocGlobal + Clone + Send + Drop> Shelf for FolderShelf<R> {
 
     type Stager = FolderStager<R>;
 
-    ghost files = { λ _. None };
-
-    ghost faults = { λ s. s.faults };
+    ghost state = { λ s. record { files = None; faults = s.faults } };
 
     fn list(&mut self, alloc: Global) -> Result<FileList, ShelfFault>
         ensures listed { IfOk result IsListing }

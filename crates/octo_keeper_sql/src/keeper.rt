@@ -97,11 +97,7 @@ impl<S: Alter + Drop> Keeper for SqlKeeper<S> {
     ghost use Rattle.octo_keeper_sql.specs.Loads.{FailsToLoad, IsUnsound, LacksMemory, Loads};
     ghost use Rattle.octo_keeper_sql.specs.Statements.{Commits, FailsToWrite, RanInTurn, statements};
 
-    ghost tables = { λ _. None };
-
-    ghost saved = { λ _. None };
-
-    ghost faults = { λ k. k.faults };
+    ghost state = { λ k. record { tables = None; saved = None; faults = k.faults } };
 
     fn load(&mut self, alloc: Global) -> Result<Tables, KeeperFault>
         ensures sound { IfOk result AreSound }

@@ -202,38 +202,31 @@ impl<D: Door + Drop, G: Sink + Drop> LoggedDoor<D, G> {
 impl<D: Door + Drop, G: Sink + Drop> Door for LoggedDoor<D, G> {
     ghost use Rattle.std.specs.Prelude.{◌≡◌, ◌∷◌, ◌||◌, [], true, Some, is_err, IfOk, IfSome, OnErr, OnOk, IsErr, IsOkAnd};
     ghost use Rattle.octo_outside.specs.Recorded.{Adds, Counts};
-    ghost use Rattle.octo_outside_doors.specs.Doors.{Comes, IsNew, IsEnded, state_of};
+    ghost use Rattle.octo_outside_doors.specs.Doors.{Comes, IsNew, IsEnded};
     ghost use Rattle.octo_log.specs.Logged.{Logs};
     ghost use Rattle.octo_log.specs.Refused.{door_line, refusal_line};
 
     type Conn = LoggedConn<D::Conn>;
 
-    ghost coming = { λ l. D.coming l.door };
-
-    ghost served = { λ l. D.served l.door };
-
-    ghost faults = { λ l. D.faults l.door };
-
-    ghost has_failed = { λ l. D.has_failed l.door };
+    ghost state = { λ l. D.state l.door };
 
     fn accept(&mut self) -> Result<Knock<LoggedConn<D::Conn>>, Failed>
-        ensures ok { IfOk result (λ knock. IfSome (D.coming self.old.door) (λ inputs.
-            Comes (state_of (λ c. D.Conn.left c.conn) (λ c. D.Conn.written c.conn)
-            (λ c. D.Conn.faults c.conn) (λ c. D.Conn.quiets c.conn))
-            inputs knock (D.coming self.new.door))) }
+        ensures ok { IfOk result (λ knock. IfSome (D.state self.old.door).coming (λ inputs.
+            Comes (λ c. D.Conn.state c.conn)
+            inputs knock (D.state self.new.door).coming)) }
         ensures fresh { IfOk result (λ knock.
-            IsNew (λ c. D.Conn.faults c.conn) (λ c. D.Conn.quiets c.conn) knock) }
+            IsNew (λ c. D.Conn.state c.conn) knock) }
         ensures err { OnErr result
-            (IfSome (D.coming self.old.door) (λ _. D.coming self.new.door ≡ Some [])) }
+            (IfSome (D.state self.old.door).coming (λ _. (D.state self.new.door).coming ≡ Some [])) }
 
         // A failed call is the last one that isn't `Ended`.
-        ensures has_failed { D.has_failed self.new.door
-            ≡ (D.has_failed self.old.door || is_err result) }
-        ensures after { D.has_failed self.old.door ≡ true → IsOkAnd result IsEnded }
+        ensures has_failed { (D.state self.new.door).has_failed
+            ≡ ((D.state self.old.door).has_failed || is_err result) }
+        ensures after { (D.state self.old.door).has_failed ≡ true → IsOkAnd result IsEnded }
 
-        ensures served { D.served self.new.door ≡ D.served self.old.door }
-        ensures counts { Counts (IsErr result) (D.faults self.old.door) (D.faults self.new.door) }
-        ensures steady { OnOk result (D.faults self.new.door ≡ D.faults self.old.door) }
+        ensures served { (D.state self.new.door).served ≡ (D.state self.old.door).served }
+        ensures counts { Counts (IsErr result) (D.state self.old.door).faults (D.state self.new.door).faults }
+        ensures steady { OnOk result ((D.state self.new.door).faults ≡ (D.state self.old.door).faults) }
 
         ensures logged { Logs (door_line (is_err result))
             (G.written self.old.log) (G.written self.new.log)
@@ -251,11 +244,11 @@ impl<D: Door + Drop, G: Sink + Drop> Door for LoggedDoor<D, G> {
     }
 
     fn finish(&mut self, conn: LoggedConn<D::Conn>)
-        ensures served { Adds (D.served self.old.door) (D.served self.new.door)
-            (state_of D.Conn.left D.Conn.written D.Conn.faults D.Conn.quiets conn.conn ∷ []) }
-        ensures coming { D.coming self.new.door ≡ D.coming self.old.door }
-        ensures has_failed { D.has_failed self.new.door ≡ D.has_failed self.old.door }
-        ensures faults { D.faults self.new.door ≡ D.faults self.old.door }
+        ensures served { Adds (D.state self.old.door).served (D.state self.new.door).served
+            (D.Conn.state conn.conn ∷ []) }
+        ensures coming { (D.state self.new.door).coming ≡ (D.state self.old.door).coming }
+        ensures has_failed { (D.state self.new.door).has_failed ≡ (D.state self.old.door).has_failed }
+        ensures faults { (D.state self.new.door).faults ≡ (D.state self.old.door).faults }
 
         ensures logged { Logs
             (refusal_line conn.asked.items conn.status.items conn.cause.items)

@@ -122,21 +122,17 @@ impl<K: Keeper + Drop, G: Sink + Drop, C: Clock + Drop> Keeper for LoggedKeeper<
     ghost use Rattle.octo_log.specs.Lines.{backup_words, began_by, commit_lines, line_of, load_line};
     ghost use Rattle.octo_log.specs.Logged.{Logs};
 
-    ghost tables = { λ l. K.tables l.keeper };
-
-    ghost saved = { λ l. K.saved l.keeper };
-
-    ghost faults = { λ l. K.faults l.keeper };
+    ghost state = { λ l. K.state l.keeper };
 
     fn load(&mut self, alloc: Global) -> Result<Tables, KeeperFault>
         ensures ok { IfOk result
-            (λ loaded. IfSome (K.tables self.old.keeper) (λ kept. loaded ≡ kept)) }
+            (λ loaded. IfSome (K.state self.old.keeper).tables (λ kept. loaded ≡ kept)) }
         ensures sound { IfOk result AreSound }
-        ensures stays { K.tables self.new.keeper ≡ K.tables self.old.keeper }
+        ensures stays { (K.state self.new.keeper).tables ≡ (K.state self.old.keeper).tables }
         ensures counts { Counts (IsErrOf result fault.Failed)
-            (K.faults self.old.keeper) (K.faults self.new.keeper) }
+            (K.state self.old.keeper).faults (K.state self.new.keeper).faults }
         ensures steady { (IsErrOf result fault.Failed → ⊥)
-            → K.faults self.new.keeper ≡ K.faults self.old.keeper }
+            → (K.state self.new.keeper).faults ≡ (K.state self.old.keeper).faults }
 
         ensures logged { Logs (load_line (is_err result))
             (G.written self.old.log) (G.written self.new.log)
@@ -150,13 +146,13 @@ impl<K: Keeper + Drop, G: Sink + Drop, C: Clock + Drop> Keeper for LoggedKeeper<
     }
 
     fn commit(&mut self, alloc: Global, change: &Change) -> Result<(), KeeperFault>
-        ensures ok { OnOk result (K.tables self.new.keeper
-            ≡ option_map (changed change.now) (K.tables self.old.keeper)) }
-        ensures err { OnErr result (K.tables self.new.keeper ≡ K.tables self.old.keeper) }
+        ensures ok { OnOk result ((K.state self.new.keeper).tables
+            ≡ option_map (changed change.now) (K.state self.old.keeper).tables) }
+        ensures err { OnErr result ((K.state self.new.keeper).tables ≡ (K.state self.old.keeper).tables) }
         ensures counts { Counts (IsErrOf result fault.Failed)
-            (K.faults self.old.keeper) (K.faults self.new.keeper) }
+            (K.state self.old.keeper).faults (K.state self.new.keeper).faults }
         ensures steady { (IsErrOf result fault.Failed → ⊥)
-            → K.faults self.new.keeper ≡ K.faults self.old.keeper }
+            → (K.state self.new.keeper).faults ≡ (K.state self.old.keeper).faults }
 
         // The lines of the log, and when the last print began.
         ensures logged { Logs
@@ -183,12 +179,12 @@ impl<K: Keeper + Drop, G: Sink + Drop, C: Clock + Drop> Keeper for LoggedKeeper<
     }
 
     fn backup(&mut self, alloc: Global) -> Result<(), KeeperFault>
-        ensures ok { OnOk result (K.saved self.new.keeper ≡ K.tables self.old.keeper) }
-        ensures stays { K.tables self.new.keeper ≡ K.tables self.old.keeper }
+        ensures ok { OnOk result ((K.state self.new.keeper).saved ≡ (K.state self.old.keeper).tables) }
+        ensures stays { (K.state self.new.keeper).tables ≡ (K.state self.old.keeper).tables }
         ensures counts { Counts (IsErrOf result fault.Failed)
-            (K.faults self.old.keeper) (K.faults self.new.keeper) }
+            (K.state self.old.keeper).faults (K.state self.new.keeper).faults }
         ensures steady { (IsErrOf result fault.Failed → ⊥)
-            → K.faults self.new.keeper ≡ K.faults self.old.keeper }
+            → (K.state self.new.keeper).faults ≡ (K.state self.old.keeper).faults }
 
         ensures logged { Logs (line_of (backup_words (is_err result)))
             (G.written self.old.log) (G.written self.new.log)

@@ -41,18 +41,16 @@ impl<S: Shelf + Drop, G: Sink + Drop> Shelf for LoggedShelf<S, G> {
 
     type Stager = S::Stager;
 
-    ghost files = { λ l. S.files l.shelf };
-
-    ghost faults = { λ l. S.faults l.shelf };
+    ghost state = { λ l. S.state l.shelf };
 
     fn list(&mut self, alloc: Global) -> Result<FileList, ShelfFault>
         ensures ok { IfOk result
-            (λ list. IfSome (S.files self.old.shelf) (λ held. list ≡ sizes_of held)) }
-        ensures stays { S.files self.new.shelf ≡ S.files self.old.shelf }
+            (λ list. IfSome (S.state self.old.shelf).files (λ held. list ≡ sizes_of held)) }
+        ensures stays { (S.state self.new.shelf).files ≡ (S.state self.old.shelf).files }
         ensures counts { Counts (IsErrOf result fault.Failed)
-            (S.faults self.old.shelf) (S.faults self.new.shelf) }
+            (S.state self.old.shelf).faults (S.state self.new.shelf).faults }
         ensures steady { (IsErrOf result fault.Failed → ⊥)
-            → S.faults self.new.shelf ≡ S.faults self.old.shelf }
+            → (S.state self.new.shelf).faults ≡ (S.state self.old.shelf).faults }
 
         ensures logged { Logs (list_line (is_err result))
             (G.written self.old.log) (G.written self.new.log)
@@ -71,13 +69,13 @@ impl<S: Shelf + Drop, G: Sink + Drop> Shelf for LoggedShelf<S, G> {
         name: &Name,
         fetched: Option<Fetched>,
     ) -> Result<Option<Blob>, ShelfFault>
-        ensures ok { IfOk result (λ bytes. IfSome (S.files self.old.shelf)
+        ensures ok { IfOk result (λ bytes. IfSome (S.state self.old.shelf).files
             (λ held. bytes ≡ bytes_of name.now held)) }
-        ensures stays { S.files self.new.shelf ≡ S.files self.old.shelf }
+        ensures stays { (S.state self.new.shelf).files ≡ (S.state self.old.shelf).files }
         ensures counts { Counts (IsErrOf result fault.Failed)
-            (S.faults self.old.shelf) (S.faults self.new.shelf) }
+            (S.state self.old.shelf).faults (S.state self.new.shelf).faults }
         ensures steady { (IsErrOf result fault.Failed → ⊥)
-            → S.faults self.new.shelf ≡ S.faults self.old.shelf }
+            → (S.state self.new.shelf).faults ≡ (S.state self.old.shelf).faults }
 
         ensures logged { Logs (get_line name.now (is_err result))
             (G.written self.old.log) (G.written self.new.log)
@@ -95,12 +93,12 @@ impl<S: Shelf + Drop, G: Sink + Drop> Shelf for LoggedShelf<S, G> {
 
     fn size(&mut self, name: &Name) -> Result<Option<u64>, ShelfFault>
         ensures ok { IfOk result
-            (λ size. IfSome (S.files self.old.shelf) (λ held. size ≡ size_of name.now held)) }
-        ensures stays { S.files self.new.shelf ≡ S.files self.old.shelf }
+            (λ size. IfSome (S.state self.old.shelf).files (λ held. size ≡ size_of name.now held)) }
+        ensures stays { (S.state self.new.shelf).files ≡ (S.state self.old.shelf).files }
         ensures counts { Counts (IsErrOf result fault.Failed)
-            (S.faults self.old.shelf) (S.faults self.new.shelf) }
+            (S.state self.old.shelf).faults (S.state self.new.shelf).faults }
         ensures steady { (IsErrOf result fault.Failed → ⊥)
-            → S.faults self.new.shelf ≡ S.faults self.old.shelf }
+            → (S.state self.new.shelf).faults ≡ (S.state self.old.shelf).faults }
 
         ensures logged { Logs (get_line name.now (is_err result))
             (G.written self.old.log) (G.written self.new.log)
@@ -129,13 +127,13 @@ impl<S: Shelf + Drop, G: Sink + Drop> Shelf for LoggedShelf<S, G> {
         bytes: &[u8],
         part: Option<u8>,
     ) -> Result<(), ShelfFault>
-        ensures ok { OnOk result (S.files self.new.shelf
-            ≡ option_map (with_file name.now bytes.now) (S.files self.old.shelf)) }
-        ensures err { OnErr result (S.files self.new.shelf ≡ S.files self.old.shelf) }
+        ensures ok { OnOk result ((S.state self.new.shelf).files
+            ≡ option_map (with_file name.now bytes.now) (S.state self.old.shelf).files) }
+        ensures err { OnErr result ((S.state self.new.shelf).files ≡ (S.state self.old.shelf).files) }
         ensures counts { Counts (IsErrOf result fault.Failed)
-            (S.faults self.old.shelf) (S.faults self.new.shelf) }
+            (S.state self.old.shelf).faults (S.state self.new.shelf).faults }
         ensures steady { (IsErrOf result fault.Failed → ⊥)
-            → S.faults self.new.shelf ≡ S.faults self.old.shelf }
+            → (S.state self.new.shelf).faults ≡ (S.state self.old.shelf).faults }
 
         ensures logged { Logs (line_of (file_words name.now (put_words (is_err result))))
             (G.written self.old.log) (G.written self.new.log)
@@ -152,13 +150,13 @@ impl<S: Shelf + Drop, G: Sink + Drop> Shelf for LoggedShelf<S, G> {
     }
 
     fn remove(&mut self, alloc: Global, name: &Name) -> Result<(), ShelfFault>
-        ensures ok { OnOk result (S.files self.new.shelf
-            ≡ option_map (without_file name.now) (S.files self.old.shelf)) }
-        ensures err { OnErr result (S.files self.new.shelf ≡ S.files self.old.shelf) }
+        ensures ok { OnOk result ((S.state self.new.shelf).files
+            ≡ option_map (without_file name.now) (S.state self.old.shelf).files) }
+        ensures err { OnErr result ((S.state self.new.shelf).files ≡ (S.state self.old.shelf).files) }
         ensures counts { Counts (IsErrOf result fault.Failed)
-            (S.faults self.old.shelf) (S.faults self.new.shelf) }
+            (S.state self.old.shelf).faults (S.state self.new.shelf).faults }
         ensures steady { (IsErrOf result fault.Failed → ⊥)
-            → S.faults self.new.shelf ≡ S.faults self.old.shelf }
+            → (S.state self.new.shelf).faults ≡ (S.state self.old.shelf).faults }
 
         ensures logged { Logs (line_of (file_words name.now (remove_words (is_err result))))
             (G.written self.old.log) (G.written self.new.log)

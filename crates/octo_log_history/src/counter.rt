@@ -87,22 +87,16 @@ impl<C: Counter + Drop, G: Sink + Drop> Counter for LoggedCounter<C, G> {
     ghost use Rattle.octo_log.specs.Logged.{Logs};
     ghost use Rattle.octo_log_history.specs.Story.{answer_line, answer_paused, note_lines, note_paused, press_next};
 
-    ghost place = { λ l. C.place l.counter };
-
-    ghost past = { λ l. C.past l.counter };
-
-    ghost given = { λ l. C.given l.counter };
-
-    ghost closed = { λ l. C.closed l.counter };
+    ghost state = { λ l. C.state l.counter };
 
     fn next(&mut self) -> Next
-        requires answered { C.given self.old.counter ≡ None }
-        requires open { C.closed self.old.counter ≡ false }
+        requires answered { (C.state self.old.counter).given ≡ None }
+        requires open { (C.state self.old.counter).closed ≡ false }
 
-        ensures past { C.past self.new.counter ≡ C.past self.old.counter }
-        ensures given { C.given self.new.counter ≡ ask_given result }
-        ensures open { C.closed self.new.counter ≡ false }
-        ensures place { C.place self.new.counter ≡ C.place self.old.counter }
+        ensures past { (C.state self.new.counter).past ≡ (C.state self.old.counter).past }
+        ensures given { (C.state self.new.counter).given ≡ ask_given result }
+        ensures open { (C.state self.new.counter).closed ≡ false }
+        ensures place { (C.state self.new.counter).place ≡ (C.state self.old.counter).place }
 
         ensures press { self.new.press ≡ press_next result }
         ensures paused { self.new.is_paused ≡ self.old.is_paused }
@@ -114,15 +108,15 @@ impl<C: Counter + Drop, G: Sink + Drop> Counter for LoggedCounter<C, G> {
     }
 
     fn answer(&mut self, worker: u8, moment: u64, answer: Answer)
-        requires given { IsGiven worker (C.given self.old.counter) }
-        requires open { C.closed self.old.counter ≡ false }
+        requires given { IsGiven worker (C.state self.old.counter).given }
+        requires open { (C.state self.old.counter).closed ≡ false }
 
-        ensures past { IfSome (C.given self.old.counter)
-            (λ one. Adds (C.past self.old.counter) (C.past self.new.counter)
+        ensures past { IfSome (C.state self.old.counter).given
+            (λ one. Adds (C.state self.old.counter).past (C.state self.new.counter).past
             (entry.Call worker one.ask moment answer ∷ [])) }
-        ensures given { C.given self.new.counter ≡ None }
-        ensures open { C.closed self.new.counter ≡ false }
-        ensures place { C.place self.new.counter ≡ C.place self.old.counter }
+        ensures given { (C.state self.new.counter).given ≡ None }
+        ensures open { (C.state self.new.counter).closed ≡ false }
+        ensures place { (C.state self.new.counter).place ≡ (C.state self.old.counter).place }
 
         // The line of the log.
         ensures logged { Logs (answer_line self.old.press self.old.is_paused answer)
@@ -138,13 +132,13 @@ impl<C: Counter + Drop, G: Sink + Drop> Counter for LoggedCounter<C, G> {
     }
 
     fn own(&mut self, moment: u64, answer: Answer)
-        requires open { C.closed self.old.counter ≡ false }
+        requires open { (C.state self.old.counter).closed ≡ false }
 
-        ensures past { Adds (C.past self.old.counter) (C.past self.new.counter)
+        ensures past { Adds (C.state self.old.counter).past (C.state self.new.counter).past
             (own_call moment answer ∷ []) }
-        ensures given { C.given self.new.counter ≡ C.given self.old.counter }
-        ensures open { C.closed self.new.counter ≡ false }
-        ensures place { C.place self.new.counter ≡ C.place self.old.counter }
+        ensures given { (C.state self.new.counter).given ≡ (C.state self.old.counter).given }
+        ensures open { (C.state self.new.counter).closed ≡ false }
+        ensures place { (C.state self.new.counter).place ≡ (C.state self.old.counter).place }
 
         ensures rest { self.new ≡ record self.old { counter = self.new.counter } }
     {
@@ -152,13 +146,13 @@ impl<C: Counter + Drop, G: Sink + Drop> Counter for LoggedCounter<C, G> {
     }
 
     fn note(&mut self, note: Note)
-        requires open { C.closed self.old.counter ≡ false }
+        requires open { (C.state self.old.counter).closed ≡ false }
 
-        ensures past { Adds (C.past self.old.counter) (C.past self.new.counter)
+        ensures past { Adds (C.state self.old.counter).past (C.state self.new.counter).past
             (entry.Note note ∷ []) }
-        ensures given { C.given self.new.counter ≡ C.given self.old.counter }
-        ensures open { C.closed self.new.counter ≡ false }
-        ensures place { C.place self.new.counter ≡ C.place self.old.counter }
+        ensures given { (C.state self.new.counter).given ≡ (C.state self.old.counter).given }
+        ensures open { (C.state self.new.counter).closed ≡ false }
+        ensures place { (C.state self.new.counter).place ≡ (C.state self.old.counter).place }
 
         // The lines of the log.
         ensures logged { Logs (note_lines note)
@@ -173,14 +167,14 @@ impl<C: Counter + Drop, G: Sink + Drop> Counter for LoggedCounter<C, G> {
     }
 
     fn close(&mut self)
-        requires answered { C.given self.old.counter ≡ None }
-        requires open { C.closed self.old.counter ≡ false }
+        requires answered { (C.state self.old.counter).given ≡ None }
+        requires open { (C.state self.old.counter).closed ≡ false }
 
-        ensures past { Adds (C.past self.old.counter) (C.past self.new.counter)
+        ensures past { Adds (C.state self.old.counter).past (C.state self.new.counter).past
             (entry.Close ∷ []) }
-        ensures given { C.given self.new.counter ≡ None }
-        ensures closed { C.closed self.new.counter ≡ true }
-        ensures place { C.place self.new.counter ≡ C.place self.old.counter }
+        ensures given { (C.state self.new.counter).given ≡ None }
+        ensures closed { (C.state self.new.counter).closed ≡ true }
+        ensures place { (C.state self.new.counter).place ≡ (C.state self.old.counter).place }
 
         ensures rest { self.new ≡ record self.old { counter = self.new.counter } }
     {

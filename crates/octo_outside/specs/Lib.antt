@@ -1,3 +1,4 @@
+pub mod Conns
 pub mod Lists
 pub mod Memory
 pub mod Recorded

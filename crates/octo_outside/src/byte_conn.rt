@@ -30,13 +30,7 @@ impl<C: Conn + Drop> Conn for ByteConn<C> {
     ghost use Rattle.octo_outside.specs.Recorded.{Counts};
     ghost use Rattle.octo_outside.specs.Traits.{Receives, IsWithin, quiets_after};
 
-    ghost left = { λ c. C.left c.conn };
-
-    ghost written = { λ c. C.written c.conn };
-
-    ghost faults = { λ c. C.faults c.conn };
-
-    ghost quiets = { λ c. C.quiets c.conn };
+    ghost state = { λ c. C.state c.conn };
 
     fn read(&mut self, into: &mut [u8]) -> Result<Got, Failed>
         requires { 0 < length into.old }
@@ -44,18 +38,18 @@ impl<C: Conn + Drop> Conn for ByteConn<C> {
         ensures one { IfOk result (λ got. IsWithin got 1) }
 
         // What the connection below reads.
-        ensures ok { IfOk result (λ got. IfSome (C.left self.old.conn)
-            (λ before. Receives before got into.new (C.left self.new.conn))) }
+        ensures ok { IfOk result (λ got. IfSome (C.state self.old.conn).left
+            (λ before. Receives before got into.new (C.state self.new.conn).left)) }
         ensures bound { IfOk result (λ got. IsWithin got (length into.new)) }
-        ensures err { OnErr result (C.left self.new.conn ≡ C.left self.old.conn) }
-        ensures written { C.written self.new.conn ≡ C.written self.old.conn }
+        ensures err { OnErr result ((C.state self.new.conn).left ≡ (C.state self.old.conn).left) }
+        ensures written { (C.state self.new.conn).written ≡ (C.state self.old.conn).written }
 
         // Counts.
         ensures quiet { IfOk result
-            (λ got. C.quiets self.new.conn ≡ quiets_after (C.quiets self.old.conn) got) }
-        ensures quiet_err { OnErr result (C.quiets self.new.conn ≡ C.quiets self.old.conn) }
-        ensures quiets_counted { C.quiets self.old.conn ≤ C.quiets self.new.conn }
-        ensures counts { Counts (IsErr result) (C.faults self.old.conn) (C.faults self.new.conn) }
+            (λ got. (C.state self.new.conn).quiets ≡ quiets_after (C.state self.old.conn).quiets got) }
+        ensures quiet_err { OnErr result ((C.state self.new.conn).quiets ≡ (C.state self.old.conn).quiets) }
+        ensures quiets_counted { (C.state self.old.conn).quiets ≤ (C.state self.new.conn).quiets }
+        ensures counts { Counts (IsErr result) (C.state self.old.conn).faults (C.state self.new.conn).faults }
     {
         self.conn.read(&mut into[..1])
     }

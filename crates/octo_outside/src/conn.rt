@@ -1,7 +1,7 @@
 //! A connection to a peer.
-ghost use Rattle.std.specs.Prelude.{◌≡◌, ℕ, ◌<◌, ◌≤◌, List, [], ◌++◌, ◌-◌, Option, Some, length, take, IfOk, OnOk, OnErr, IsErr, IfSome};
+ghost use Rattle.std.specs.Prelude.{◌≡◌, ◌<◌, ◌≤◌, ◌-◌, length, OnOk, OnErr, IsErr};
+ghost use Rattle.octo_outside.specs.Conns.{ConnState, Reads, Writes};
 ghost use Rattle.octo_outside.specs.Recorded.{Adds, AddsPrefix, Counts};
-ghost use Rattle.octo_outside.specs.Traits.{Receives, IsWithin, quiets_after};
 
 use crate::Failed;
 
@@ -18,49 +18,28 @@ pub enum Got {
 
 /// A stream of bytes to and from a peer.
 pub trait Conn {
-    /// What is left to read, if recorded.
-    ghost left: { Self → Option (List ℕ) };
-
-    /// What was written, if recorded.
-    ghost written: { Self → Option (List ℕ) };
-
-    /// How many calls failed.
-    ghost faults: { Self → ℕ };
-
-    /// How many reads found nothing yet, counted up to the last value of a u64.
-    ghost quiets: { Self → ℕ };
+    /// What it says of itself: what is left to read and what was written, if recorded, how many calls failed, and how many reads
+    /// found nothing yet, counted up to the last value of a u64.
+    ghost state: { Self → ConnState };
 
     /// Reads the next bytes. `Ended` comes if nothing is left and the peer has closed. A failed read takes nothing.
     fn read(&mut self, into: &mut [u8]) -> Result<Got, Failed>
         requires { 0 < length into.old }
-        ensures ok { IfOk result (λ got. IfSome (left self.old)
-            (λ before. Receives before got into.new (left self.new))) }
-        ensures bound { IfOk result (λ got. IsWithin got (length into.new)) }
-        ensures err { OnErr result (left self.new ≡ left self.old) }
-        ensures written { written self.new ≡ written self.old }
-        ensures quiet { IfOk result (λ got. quiets self.new ≡ quiets_after (quiets self.old) got) }
-        ensures quiet_err { OnErr result (quiets self.new ≡ quiets self.old) }
-        ensures quiets_counted { quiets self.old ≤ quiets self.new }
-        ensures counts { Counts (IsErr result) (faults self.old) (faults self.new) };
+        ensures { Reads (state self.old) result into.new (state self.new) };
 
     /// Writes 1 to all of the bytes, a prefix. A failed call writes nothing.
     fn write(&mut self, bytes: &[u8]) -> Result<usize, Failed>
         requires { 0 < length bytes.now }
-        ensures ok { IfOk result (λ n. (0 < n) × (n ≤ length bytes.now)
-            × Adds (written self.old) (written self.new) (take n bytes.now)) }
-        ensures err { OnErr result (Adds (written self.old) (written self.new) []) }
-        ensures left { left self.new ≡ left self.old }
-        ensures quiets { quiets self.new ≡ quiets self.old }
-        ensures counts { Counts (IsErr result) (faults self.old) (faults self.new) };
+        ensures { Writes (state self.old) bytes.now result (state self.new) };
 }
 
 /// Writes all the bytes; after a failed call a prefix of them was written. What is left to read stays.
 pub fn send_all<C: Conn>(conn: &mut C, bytes: &[u8]) -> Result<(), Failed>
-    ensures ok { OnOk result (Adds (C.written conn.old) (C.written conn.new) bytes.now) }
-    ensures err { OnErr result (AddsPrefix (C.written conn.old) (C.written conn.new) bytes.now) }
-    ensures left { C.left conn.new ≡ C.left conn.old }
-    ensures quiets { C.quiets conn.new ≡ C.quiets conn.old }
-    ensures counts { Counts (IsErr result) (C.faults conn.old) (C.faults conn.new) }
+    ensures ok { OnOk result (Adds (C.state conn.old).written (C.state conn.new).written bytes.now) }
+    ensures err { OnErr result (AddsPrefix (C.state conn.old).written (C.state conn.new).written bytes.now) }
+    ensures left { (C.state conn.new).left ≡ (C.state conn.old).left }
+    ensures quiets { (C.state conn.new).quiets ≡ (C.state conn.old).quiets }
+    ensures counts { Counts (IsErr result) (C.state conn.old).faults (C.state conn.new).faults }
 {
     let mut done = 0;
     while done < bytes.len() {

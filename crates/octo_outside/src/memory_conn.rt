@@ -129,13 +129,12 @@ impl Conn for MemoryConn {
     ghost use Rattle.octo_outside.specs.Traits.{Receives, IsWithin, quiets_after};
     ghost use Rattle.octo_outside.specs.Memory.{ConnData, next_got, after_got, one_more, is_listed};
 
-    ghost left = { λ c. Some c.left };
-
-    ghost written = { λ c. Some c.written };
-
-    ghost faults = { λ c. c.faults };
-
-    ghost quiets = { λ c. c.quiets };
+    ghost state = { λ c. record {
+      left = Some c.left;
+      written = Some c.written;
+      faults = c.faults;
+      quiets = c.quiets;
+    } };
 
     fn read(&mut self, into: &mut [u8]) -> Result<Got, Failed>
         requires { 0 < length into.old }

@@ -1,7 +1,7 @@
 -- What a door in memory holds.
 use Rattle.std.specs.Prelude.{◌≡◌, ℕ, Bool, true, ◌&&◌, not, List, [], ◌∷◌, drop, map, Option, Some, if◌then◌else◌}
 use Rattle.octo_outside.specs.Memory.{ConnData, is_listed, one_more}
-use Rattle.octo_outside_doors.specs.Doors.{ConnState}
+use Rattle.octo_outside.specs.Conns.{ConnState}
 use Rattle.octo_outside_doors.specs.declared.door.Knock.{Knock}
 use Rattle.octo_outside_doors.specs.declared.door.Knock.TheVariants.{Conn, Quiet, Ended}
 

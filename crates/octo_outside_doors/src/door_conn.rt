@@ -210,13 +210,12 @@ impl<R: Clock + Drop> DoorConn<R> {
 }
 
 impl<R: Clock + Drop> Conn for DoorConn<R> {
-    ghost left = { λ _. None };
-
-    ghost written = { λ _. None };
-
-    ghost faults = { λ c. c.faults };
-
-    ghost quiets = { λ c. c.quiets };
+    ghost state = { λ c. record {
+      left = None;
+      written = None;
+      faults = c.faults;
+      quiets = c.quiets;
+    } };
 
     fn read(&mut self, into: &mut [u8]) -> Result<Got, Failed> {
         if let Some(n) = self.take_ahead(into) {

@@ -115,13 +115,12 @@ impl Door for MemoryDoor {
 
     type Conn = MemoryConn;
 
-    ghost coming = { λ d. Some (inputs_of d.coming) };
-
-    ghost served = { λ d. option_map (map conn_state) d.served };
-
-    ghost faults = { λ d. d.faults };
-
-    ghost has_failed = { λ d. d.has_failed };
+    ghost state = { λ d. record {
+      coming = Some (inputs_of d.coming);
+      served = option_map (map conn_state) d.served;
+      faults = d.faults;
+      has_failed = d.has_failed;
+    } };
 
     fn accept(&mut self) -> Result<Knock<MemoryConn>, Failed>
         ensures fails { IsErr result ↔ (fails_next self.old ≡ true) }
@@ -132,7 +131,7 @@ impl Door for MemoryDoor {
         ensures ok { IfOk result (λ knock.
             Comes conn_state (inputs_of self.old.coming) knock (Some (inputs_of self.new.coming))) }
         ensures fresh { IfOk result
-            (λ knock. IsNew (λ (c : ConnData). c.faults) (λ (c : ConnData). c.quiets) knock) }
+            (λ knock. IsNew conn_state knock) }
         ensures err { OnErr result (self.new.coming ≡ []) }
         ensures has_failed { self.new.has_failed ≡ (self.old.has_failed || is_err result) }
         ensures after { self.old.has_failed ≡ true → IsOkAnd result IsEnded }

@@ -1,7 +1,7 @@
 //! Doors over TCP.
 ghost use Rattle.std.specs.Prelude.{◌≡◌, None, false, true, ◌||◌, is_err, IfOk, OnOk, IsErr, IsOkAnd, ⊤};
 ghost use Rattle.octo_outside.specs.Recorded.{Counts};
-ghost use Rattle.octo_outside_doors.specs.Doors.{Each, IsNew, IsEnded};
+ghost use Rattle.octo_outside_doors.specs.Doors.{Each, IsNew, IsEnded, unrecorded};
 
 use crate::arrivals::{Arrival, Arrivals, address_of, next_of};
 use crate::{Door, DoorConn, Doors, Knock};
@@ -148,20 +148,12 @@ impl<R: Net<Listener = TcpListener, Stream = TcpStream> + Clock + Wait + Copy + 
     for TcpDoor<R> {
     type Conn = DoorConn<R>;
 
-    ghost coming = { λ _. None };
-
-    ghost served = { λ _. None };
-
-    ghost faults = { λ d. d.faults };
-
-    ghost has_failed = { λ d. d.has_failed };
+    ghost state = { λ d. record { coming = None; served = None; faults = d.faults; has_failed = d.has_failed } };
 
     fn accept(&mut self) -> Result<Knock<DoorConn<R>>, Failed>
         ensures absent { self.old.arrivals ≡ None → self.old.has_failed ≡ false → IsErr result }
-        ensures fresh { IfOk result (λ knock. IsNew
-            (λ (conn : DoorConn R). conn.faults)
-            (λ (conn : DoorConn R). conn.quiets)
-            knock) }
+        ensures fresh { IfOk result (λ knock.
+            IsNew (λ (conn : DoorConn R). unrecorded conn.faults conn.quiets) knock) }
         ensures has_failed { self.new.has_failed ≡ (self.old.has_failed || is_err result) }
         ensures after { self.old.has_failed ≡ true → IsOkAnd result IsEnded }
         ensures counts { Counts (IsErr result) self.old.faults self.new.faults }

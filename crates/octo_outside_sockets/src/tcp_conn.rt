@@ -117,13 +117,12 @@ impl<R: Net + Clock + Drop> TcpConn<R> {
 }
 
 impl<R: Net + Drop> Conn for TcpConn<R> {
-    ghost left = { λ _. None };
-
-    ghost written = { λ _. None };
-
-    ghost faults = { λ c. c.faults };
-
-    ghost quiets = { λ c. c.quiets };
+    ghost state = { λ c. record {
+      left = None;
+      written = None;
+      faults = c.faults;
+      quiets = c.quiets;
+    } };
 
     fn read(&mut self, into: &mut [u8]) -> Result<Got, Failed>
         requires { 0 < length into.old }

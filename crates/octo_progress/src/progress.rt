@@ -115,54 +115,17 @@ impl<L: Link + Drop, G: Sink + Drop, C: Clock + Drop> ProgressLink<L, G, C> {
 }
 
 impl<L: Link + Drop, G: Sink + Drop, C: Clock + Drop> Link for ProgressLink<L, G, C> {
-    ghost use Rattle.std.specs.Prelude.{◌≡◌, ◌≤◌, ◌↔◌, ℕ, true, false, [], ◌∷◌, length, is_ok, if◌then◌else◌, IfOk, IfSome, OnOk, OnErr, IsErr, IsErrOf};
+    ghost use Rattle.std.specs.Prelude.{◌≡◌, ◌≤◌, true, false, length, is_ok, if◌then◌else◌, IfSome, OnOk, OnErr};
     ghost use Rattle.byte_text.specs.declared.texts.TheConstants.{MOST_LINE_BYTES};
-    ghost use Rattle.octo_outside.specs.Recorded.{Counts};
-    ghost use Rattle.printer_link.specs.Link.{HasSlots, Grows, IsOpenAs, IsNothing, IsRuns, IsDial, IsSend, IsSendLoss, IsHeard, IsSilence, IsLoss, IsHangUp, IsSendOf, counted_one, dial_events, recv_events};
-    ghost use Rattle.printer_model.specs.declared.event.WorldEvent.{WorldEvent};
-    ghost use Rattle.printer_link.specs.declared.link.Heard.TheVariants as heard;
-    ghost use Rattle.printer_link.specs.declared.link.LinkFault.TheVariants as fault;
+    ghost use Rattle.printer_link.specs.Calls.{Dials, Sends, Hears, HangsUp};
     ghost use Rattle.octo_progress.specs.Progress.{heard_by, last_text, new_tally, sent_by, shown_after, shown_text, temps_by};
     ghost use Rattle.octo_log.specs.Logged.{Logs};
 
-    ghost past = { λ l. L.past l.link };
-
-    ghost kind = { λ l. L.kind l.link };
-
-    ghost calls = { λ l. L.calls l.link };
-
-    ghost up = { λ l. L.up l.link };
-
-    ghost faults = { λ l. L.faults l.link };
+    ghost state = { λ l. L.state l.link };
 
     fn dial(&mut self, name: &str) -> Result<(), LinkFault>
-        requires { L.up self.old.link ≡ false }
-
-        // What its history says of it.
-        ensures past { OnOk result
-            (Grows (L.kind self.old.link) (L.past self.old.link) (L.past self.new.link) IsDial) }
-        ensures past_no_port { IsErrOf result fault.NoPort
-            → Grows (L.kind self.old.link) (L.past self.old.link) (L.past self.new.link) IsNothing }
-        ensures past_failed { IsErrOf result fault.Failed
-            → Grows (L.kind self.old.link) (L.past self.old.link) (L.past self.new.link) IsRuns }
-        ensures past_prompt { (L.kind self.old.link).prompt ≡ true
-            → OnOk result
-            (Grows (L.kind self.old.link) (L.past self.old.link) (L.past self.new.link)
-            (λ w added. (last : ℕ) × (added ≡ dial_events w last))) }
-
-        // Whether the port is listed, and whether the link is up.
-        ensures no_port { IsErrOf result fault.NoPort
-            ↔ ((L.kind self.old.link).listed name.now ≡ false) }
-        ensures up { OnOk result (L.up self.new.link ≡ true) }
-        ensures down { OnErr result (L.up self.new.link ≡ false) }
-        ensures open { IsOpenAs (L.kind self.new.link) (L.past self.new.link) (L.up self.new.link) }
-
-        // Counts, and what stays.
-        ensures slots { HasSlots (L.kind self.new.link) }
-        ensures kind { L.kind self.new.link ≡ L.kind self.old.link }
-        ensures calls { L.calls self.new.link ≡ counted_one (L.calls self.old.link) }
-        ensures counts { Counts (IsErrOf result fault.Failed)
-            (L.faults self.old.link) (L.faults self.new.link) }
+        requires { (L.state self.old.link).up ≡ false }
+        ensures dials { Dials (L.state self.old.link) name.now result (L.state self.new.link) }
 
         // Where the counts begin.
         ensures counted { OnOk result (self.new.tally ≡ new_tally) }
@@ -179,31 +142,9 @@ impl<L: Link + Drop, G: Sink + Drop, C: Clock + Drop> Link for ProgressLink<L, G
     }
 
     fn send(&mut self, line: &Line) -> Result<(), LinkFault>
-        requires open { L.up self.old.link ≡ true }
+        requires open { (L.state self.old.link).up ≡ true }
         requires short { length line.now.items ≤ MOST_LINE_BYTES }
-
-        // What its history says of it.
-        ensures past { OnOk result
-            (Grows (L.kind self.old.link) (L.past self.old.link) (L.past self.new.link)
-            (IsSend line.now.items)) }
-        ensures past_failed { OnErr result
-            (Grows (L.kind self.old.link) (L.past self.old.link) (L.past self.new.link) IsSendLoss) }
-        ensures past_prompt { (L.kind self.old.link).prompt ≡ true
-            → OnOk result
-            (Grows (L.kind self.old.link) (L.past self.old.link) (L.past self.new.link)
-            (λ w added. (sent : WorldEvent) × (added ≡ sent ∷ []) × IsSendOf line.now.items sent)) }
-
-        // Whether the link is up.
-        ensures no_port { IsErrOf result fault.NoPort → ⊥ }
-        ensures up { OnOk result (L.up self.new.link ≡ true) }
-        ensures down { OnErr result (L.up self.new.link ≡ false) }
-        ensures open { IsOpenAs (L.kind self.new.link) (L.past self.new.link) (L.up self.new.link) }
-
-        // Counts, and what stays.
-        ensures kind { L.kind self.new.link ≡ L.kind self.old.link }
-        ensures calls { L.calls self.new.link ≡ counted_one (L.calls self.old.link) }
-        ensures counts { Counts (IsErr result)
-            (L.faults self.old.link) (L.faults self.new.link) }
+        ensures sends { Sends (L.state self.old.link) line.now.items result (L.state self.new.link) }
 
         // What is counted and shown.
         ensures counted { self.new.tally
@@ -229,33 +170,8 @@ impl<L: Link + Drop, G: Sink + Drop, C: Clock + Drop> Link for ProgressLink<L, G
     }
 
     fn recv(&mut self, into: &mut ReplyLine) -> Result<Heard, LinkFault>
-        requires { L.up self.old.link ≡ true }
-
-        // What its history says of it.
-        ensures past { IfOk result (λ got. got ≡ heard.Line
-            → Grows (L.kind self.old.link) (L.past self.old.link) (L.past self.new.link)
-            (IsHeard into.new.items)) }
-        ensures past_nothing { IfOk result
-            (λ got. got ≡ heard.Nothing
-            → Grows (L.kind self.old.link) (L.past self.old.link) (L.past self.new.link) IsSilence) }
-        ensures past_failed { OnErr result
-            (Grows (L.kind self.old.link) (L.past self.old.link) (L.past self.new.link) IsLoss) }
-        ensures past_prompt { (L.kind self.old.link).prompt ≡ true
-            → OnOk result
-            (Grows (L.kind self.old.link) (L.past self.old.link) (L.past self.new.link)
-            (λ w added. added ≡ recv_events true w)) }
-
-        // Whether the link is up.
-        ensures no_port { IsErrOf result fault.NoPort → ⊥ }
-        ensures up { OnOk result (L.up self.new.link ≡ true) }
-        ensures down { OnErr result (L.up self.new.link ≡ false) }
-        ensures open { IsOpenAs (L.kind self.new.link) (L.past self.new.link) (L.up self.new.link) }
-
-        // Counts, and what stays.
-        ensures kind { L.kind self.new.link ≡ L.kind self.old.link }
-        ensures calls { L.calls self.new.link ≡ counted_one (L.calls self.old.link) }
-        ensures counts { Counts (IsErr result)
-            (L.faults self.old.link) (L.faults self.new.link) }
+        requires { (L.state self.old.link).up ≡ true }
+        ensures hears { Hears (L.state self.old.link) result into.new.items (L.state self.new.link) }
 
         // What is counted and shown.
         ensures counted { self.new.tally ≡ heard_by self.old.tally into.new.items result }
@@ -283,12 +199,7 @@ impl<L: Link + Drop, G: Sink + Drop, C: Clock + Drop> Link for ProgressLink<L, G
     }
 
     fn hang_up(&mut self)
-        ensures past { Grows (L.kind self.old.link) (L.past self.old.link) (L.past self.new.link)
-            (IsHangUp (L.up self.old.link)) }
-        ensures down { L.up self.new.link ≡ false }
-        ensures kind { L.kind self.new.link ≡ L.kind self.old.link }
-        ensures calls { L.calls self.new.link ≡ L.calls self.old.link }
-        ensures faults { L.faults self.new.link ≡ L.faults self.old.link }
+        ensures hangs_up { HangsUp (L.state self.old.link) (L.state self.new.link) }
 
         // The last words, if any were shown.
         ensures ended { self.new.shown ≡ 0 }

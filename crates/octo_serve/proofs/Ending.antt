@@ -1,7 +1,7 @@
 -- What four workers' work says once their calls are those of a finished history.
 use Rattle.std.proofs.Common.{◌≡◌, ℕ, Bool, true, List, [], ◌∷◌, ◌++◌, Option, Some, inl, inr, sym, refl, ap, subst, ◌∙◌}
 use Rattle.std.proofs.lemmas.Option.{same_Some}
-use Rattle.octo_outside_doors.specs.Doors.{ConnState}
+use Rattle.octo_outside.specs.Conns.{ConnState}
 use Rattle.octo_outside_doors.specs.declared.door.Doors.{Doors}
 use Rattle.octo_asks.specs.History.{History, calls_of}
 use Rattle.octo_outside.specs.Recorded.{Became}
@@ -11,7 +11,7 @@ use Rattle.octo_api_worker.specs.declared.terms.Terms.{Terms}
 use Rattle.octo_api_worker.specs.Worked.{AreOfReturned, HasReturned, HasWorked}
 use Rattle.hand_over.specs.declared.workers.Workers.{Workers}
 use Rattle.hand_over.specs.Views.{AreCalls}
-use Rattle.octo_serve.specs.Around.{DoorState}
+use Rattle.octo_outside_doors.specs.Doors.{DoorState}
 use Rattle.octo_serve.specs.Hosted.{Setting, Ran}
 use Rattle.octo_serve.specs.Doors.{AtDoor, AllWork, IsServedBy, AreServed}
 

@@ -5,7 +5,7 @@ use Rattle.std.proofs.lemmas.Bool.{false≢true}
 use Rattle.std.proofs.lemmas.Bool.Decides.{nat_tests}
 use Rattle.std.proofs.lemmas.List.Elements.{All-head, All-tail}
 use Rattle.octo_outside.specs.Recorded.{Became}
-use Rattle.octo_outside_doors.specs.Doors.{ConnState}
+use Rattle.octo_outside.specs.Conns.{ConnState}
 use Rattle.octo_outside_doors.specs.declared.door.Doors.{Doors}
 use Rattle.octo_asks.specs.declared.answer.Answer.{Answer}
 use Rattle.octo_asks.specs.declared.request.Ask.{Ask}
@@ -22,7 +22,7 @@ use Rattle.hand_over.specs.Views.{AreCalls, has_close, is_own, all_of_four}
 use Rattle.octo_house_rules.specs.Counted.{is_leave, leaves_made, is_shut}
 use Rattle.octo_house_run.specs.Runs.{IsOver}
 use Rattle.octo_house_run.proofs.Tallying.{leaves_append}
-use Rattle.octo_serve.specs.Around.{DoorState}
+use Rattle.octo_outside_doors.specs.Doors.{DoorState}
 use Rattle.octo_serve.specs.Doors.{IsServedBy, AreServed, HasNoMore, AllHaveNoMore}
 use Rattle.octo_serve.specs.Hosted.{Setting, Ran, HasHosted}
 use Rattle.std.proofs.lemmas.Option.{same_Some}

@@ -2,24 +2,15 @@
 use Rattle.std.specs.Prelude.{◌≡◌, ℕ, Bool, true, false, ◌&&◌, List, [], Option, Some, IfSome}
 use Rattle.octo_outside.specs.Recorded.{Rose}
 use Rattle.octo_outside_doors.specs.declared.door.Doors.{Doors}
+use Rattle.octo_asks.specs.Calls.{AskerState}
 use Rattle.octo_asks.specs.History.{History, calls_of}
-use Rattle.octo_asks.specs.Place.{Place}
 use Rattle.octo_api_worker.specs.Worked.{HasReturned, HasWorked}
 use Rattle.octo_api_worker.specs.declared.terms.Terms.{Terms}
 use Rattle.hand_over.specs.declared.workers.Workers.{Workers}
 use Rattle.hand_over.specs.Ends.{WorkerData, worker_place}
-use Rattle.octo_serve.specs.Around.{DoorState}
+use Rattle.octo_outside_doors.specs.Doors.{DoorState}
 
--- a worker's end: its finished calls, if they are recorded, whether it saw that the host has ended, and its place
-pub record AskerState : Type 0 where
-  pub mine : Option History
-  pub saw_close : Bool
-  pub place : Place
-
--- the same by the meanings of a kind of end
-abbrev pub asker_state : {A : Type 0} → (A → Option History) → (A → Bool) → (A → Place) → A → AskerState
-asker_state mine saw_close place end = record { mine = mine end; saw_close = saw_close end; place = place end }
-
+-- what a worker's end says of itself
 abbrev pub worker_state : WorkerData → AskerState
 worker_state worker = record { mine = Some worker.view.mine; saw_close = worker.view.saw_close; place = worker_place worker }
 

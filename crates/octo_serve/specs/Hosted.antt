@@ -17,7 +17,9 @@ use Rattle.octo_house.specs.declared.house.House.{House}
 use Rattle.octo_house.specs.State.{IsListed, session_of, tables_of}
 use Rattle.octo_house_run.specs.Laws.{RunKeepsLaws}
 use Rattle.octo_house_run.specs.Runs.{HasRun, HasRunOver, RunKeepsPrints, IsOver, ArePassed, begins}
-use Rattle.octo_serve.specs.Around.{LinkState, KeeperState, ShelfState, DoorState}
+use Rattle.printer_link.specs.Calls.{LinkState}
+use Rattle.octo_keeper.specs.Calls.{KeeperState, ShelfState}
+use Rattle.octo_outside_doors.specs.Doors.{DoorState}
 use Rattle.octo_serve.specs.Doors.{AreServed, AllHaveNoMore}
 
 -- a house, its link, its clock's moment, if that is recorded, its keeper and its shelf

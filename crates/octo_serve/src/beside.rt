@@ -1,8 +1,8 @@
 //! Workers at their doors, beside other work.
 ghost use Rattle.std.specs.Prelude.{◌≡◌};
 ghost use Rattle.std.specs.Thread.{IsSend, IsSync};
-ghost use Rattle.octo_serve.specs.Around.{door_state, door_states};
-ghost use Rattle.octo_serve.specs.Doors.{WorksAt, AllWork, asker_state, worker_state};
+ghost use Rattle.octo_serve.specs.Around.{door_states};
+ghost use Rattle.octo_serve.specs.Doors.{WorksAt, AllWork, worker_state};
 
 use crate::stagers::Stagers;
 use hand_over::Workers;
@@ -25,10 +25,10 @@ fn work_at<R: Wait, D: Door, A: Asker, P: Stager>(
     stager: &mut P,
     terms: &Terms,
 ) -> bool
-    ensures { WorksAt terms.now (door_state D.coming D.served D.faults door.old)
-        (door_state D.coming D.served D.faults door.new)
-        (asker_state A.mine A.saw_close A.place asker.old)
-        (asker_state A.mine A.saw_close A.place asker.new) result }
+    ensures { WorksAt terms.now (D.state door.old)
+        (D.state door.new)
+        (A.state asker.old)
+        (A.state asker.new) result }
 {
     worker(rt, alloc, routes, door, asker, stager, terms)
 }
@@ -53,10 +53,10 @@ fn one_beside<
     work: &mut G,
 ) -> (bool, B)
     requires { G.pre work.old }
-    ensures works { WorksAt terms.now (door_state D.coming D.served D.faults door.old)
-        (door_state D.coming D.served D.faults door.new)
-        (asker_state A.mine A.saw_close A.place asker.old)
-        (asker_state A.mine A.saw_close A.place asker.new) result.0 }
+    ensures works { WorksAt terms.now (D.state door.old)
+        (D.state door.new)
+        (A.state asker.old)
+        (A.state asker.new) result.0 }
     ensures work { G.step work.old result.1 work.new }
 {
     join_mut(
@@ -88,14 +88,14 @@ fn two_beside<
     work: &mut G,
 ) -> (bool, (bool, B))
     requires { G.pre work.old }
-    ensures first { WorksAt terms.now (door_state D.coming D.served D.faults one.old)
-        (door_state D.coming D.served D.faults one.new)
-        (asker_state A.mine A.saw_close A.place first.old)
-        (asker_state A.mine A.saw_close A.place first.new) result.0 }
-    ensures second { WorksAt terms.now (door_state D.coming D.served D.faults two.old)
-        (door_state D.coming D.served D.faults two.new)
-        (asker_state A.mine A.saw_close A.place second.old)
-        (asker_state A.mine A.saw_close A.place second.new) result.1.0 }
+    ensures first { WorksAt terms.now (D.state one.old)
+        (D.state one.new)
+        (A.state first.old)
+        (A.state first.new) result.0 }
+    ensures second { WorksAt terms.now (D.state two.old)
+        (D.state two.new)
+        (A.state second.old)
+        (A.state second.new) result.1.0 }
     ensures work { G.step work.old result.1.1 work.new }
 {
     one_beside(
@@ -110,10 +110,10 @@ fn two_beside<
             requires { IsSync R.row × IsSend D.row × IsSend D.Conn.row × IsSend A.row
                 × IsSend P.row × G.pre work.now }
             ensures second { WorksAt terms.entry.now
-                (door_state D.coming D.served D.faults two.entry.now)
-                (door_state D.coming D.served D.faults two.exit.now)
-                (asker_state A.mine A.saw_close A.place second.entry.now)
-                (asker_state A.mine A.saw_close A.place second.exit.now) result.0 }
+                (D.state two.entry.now)
+                (D.state two.exit.now)
+                (A.state second.entry.now)
+                (A.state second.exit.now) result.0 }
             ensures work { G.step work.entry.now result.1 work.exit.now }
         { one_beside(rt, alloc, routes, two, second, second_stager, terms, work) },
     )
@@ -139,8 +139,8 @@ pub(crate) fn four_beside<
 ) -> (bool, B)
     requires { G.pre work.old }
     ensures works { AllWork terms.now
-        (door_states (door_state D.coming D.served D.faults) doors.old)
-        (door_states (door_state D.coming D.served D.faults) doors.new)
+        (door_states (D.state) doors.old)
+        (door_states (D.state) doors.new)
         workers.old workers.new result.0 }
     ensures work { G.step work.old result.1 work.new }
 {
@@ -172,12 +172,12 @@ pub(crate) fn four_beside<
             requires { IsSync R.row × IsSend D.row × IsSend D.Conn.row × IsSend R.row
                 × IsSend P.row × G.pre work.now }
             ensures third { WorksAt terms.entry.now
-                (door_state D.coming D.served D.faults c.entry.now)
-                (door_state D.coming D.served D.faults c.exit.now)
+                (D.state c.entry.now)
+                (D.state c.exit.now)
                 (worker_state third.entry.now) (worker_state third.exit.now) result.0 }
             ensures fourth { WorksAt terms.entry.now
-                (door_state D.coming D.served D.faults d.entry.now)
-                (door_state D.coming D.served D.faults d.exit.now)
+                (D.state d.entry.now)
+                (D.state d.exit.now)
                 (worker_state fourth.entry.now) (worker_state fourth.exit.now) result.1.0 }
             ensures work { G.step work.entry.now result.1.1 work.exit.now }
         {

@@ -35,13 +35,12 @@ impl Counter for HouseCounter {
     ghost use Rattle.std.specs.Prelude.{Some};
     ghost use Rattle.hand_over.specs.Ends.{house_place};
 
-    ghost place = { λ c. house_place c.end };
-
-    ghost past = { λ c. Some c.end.view.history };
-
-    ghost given = { λ c. c.end.view.taken };
-
-    ghost closed = { λ c. c.end.view.closed };
+    ghost state = { λ c. record {
+      place = house_place c.end;
+      past = Some c.end.view.history;
+      given = c.end.view.taken;
+      closed = c.end.view.closed;
+    } };
 
     fn next(&mut self) -> Next {
         self.end.next()

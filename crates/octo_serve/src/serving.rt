@@ -5,8 +5,7 @@ ghost use Rattle.octo_house.specs.State.{session_of};
 ghost use Rattle.octo_house_run.specs.Own.{ConnectsItself};
 ghost use Rattle.octo_house_run.specs.Runs.{IsFresh};
 ghost use Rattle.octo_outside.specs.Recorded.{Became};
-ghost use Rattle.octo_serve.specs.Around.{link_state, keeper_state, shelf_state};
-ghost use Rattle.octo_serve.specs.Around.{door_state, door_states};
+ghost use Rattle.octo_serve.specs.Around.{door_states};
 ghost use Rattle.octo_serve.specs.Hosted.{setting, Ran, HasHosted};
 ghost use Rattle.printer_link.specs.Suits.{SuitsAs};
 
@@ -50,14 +49,14 @@ fn run_house<R: Wait, L: Link, T: Clock, K: Keeper, S: Shelf, G: Sink + Drop>(
     connects: bool,
 ) -> u64
     requires fresh { IsFresh (session_of house.old) }
-    requires down { L.up link.old ≡ false }
+    requires down { (L.state link.old).up ≡ false }
     requires suits { SuitsAs (session_of house.old).sender.numbered
-        (L.past link.old) (L.kind link.old).oks }
+        (L.state link.old).past (L.state link.old).kind.oks }
     requires answered { counter.old.counter.end.view.taken ≡ None }
     requires open { counter.old.counter.end.view.closed ≡ false }
 
-    ensures ran { let at = setting (link_state L.kind L.past L.calls L.up L.faults) T.moment
-        (keeper_state K.tables K.faults) (shelf_state S.files S.faults) in
+    ensures ran { let at = setting (L.state) T.moment
+        (K.state) (S.state) in
         Ran (at house.old link.old clock.old keeper.old shelf.old)
         (at house.new link.new clock.new keeper.new shelf.new)
         (Some counter.old.counter.end.view.history)
@@ -103,13 +102,13 @@ pub fn serve<
     log: G,
 ) -> Result<Served, AllocError>
     requires fresh { IsFresh (session_of house.old) }
-    requires down { L.up link.old ≡ false }
+    requires down { (L.state link.old).up ≡ false }
     requires suits { SuitsAs (session_of house.old).sender.numbered
-        (L.past link.old) (L.kind link.old).oks }
+        (L.state link.old).past (L.state link.old).kind.oks }
 
-    ensures ok { let at = setting (link_state L.kind L.past L.calls L.up L.faults) T.moment
-        (keeper_state K.tables K.faults) (shelf_state S.files S.faults) in
-        let doors_at = door_states (door_state D.coming D.served D.faults) in
+    ensures ok { let at = setting (L.state) T.moment
+        (K.state) (S.state) in
+        let doors_at = door_states (D.state) in
         IfOk result (λ served. HasHosted terms.now
         (at house.old link.old clock.old keeper.old shelf.old)
         (at house.new link.new clock.new keeper.new shelf.new)
@@ -140,13 +139,13 @@ pub fn serve<
         &mut stagers,
         terms,
         &mut || -> u64
-            requires { IsFresh (session_of house.now) × (L.up link.now ≡ false)
+            requires { IsFresh (session_of house.now) × ((L.state link.now).up ≡ false)
                 × SuitsAs (session_of house.now).sender.numbered
-                (L.past link.now) (L.kind link.now).oks
+                (L.state link.now).past (L.state link.now).kind.oks
                 × (counter.counter.end.view.taken ≡ None)
                 × (counter.counter.end.view.closed ≡ false) }
-            ensures ran { let at = setting (link_state L.kind L.past L.calls L.up L.faults) T.moment
-                (keeper_state K.tables K.faults) (shelf_state S.files S.faults) in
+            ensures ran { let at = setting (L.state) T.moment
+                (K.state) (S.state) in
                 Ran
                 (at house.entry.now link.entry.now clock.entry.now keeper.entry.now shelf.entry.now)
                 (at house.exit.now link.exit.now clock.exit.now keeper.exit.now shelf.exit.now)

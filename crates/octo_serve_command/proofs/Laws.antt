@@ -17,7 +17,8 @@ use Rattle.octo_house_laws.proofs.Prints.{new_host_keeps_prints}
 use Rattle.octo_serve.specs.Hosted.{HasHosted}
 use Rattle.octo_settings.specs.Sound.{IsSettings}
 use Rattle.octo_settings.specs.declared.settings.Settings.{Settings}
-use Rattle.octo_serve_command.specs.Beginning.{session_by, policy_by, terms_by}
+use Rattle.octo_settings.specs.Session.{session_by}
+use Rattle.octo_serve_command.specs.Beginning.{policy_by, terms_by}
 use Rattle.octo_serve_command.specs.Hosting.{Around, host_in, HasLaws, HasLawsOver}
 
 -- a host that began with a new desk and served

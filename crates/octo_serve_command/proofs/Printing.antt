@@ -11,7 +11,8 @@ use Rattle.octo_house.specs.State.{known_of, session_of}
 use Rattle.octo_house.specs.declared.house.House.{House}
 use Rattle.octo_serve.specs.Hosted.{HasHosted}
 use Rattle.octo_settings.specs.declared.settings.Settings.{Settings}
-use Rattle.octo_serve_command.specs.Beginning.{session_by, policy_by, terms_by}
+use Rattle.octo_settings.specs.Session.{session_by}
+use Rattle.octo_serve_command.specs.Beginning.{policy_by, terms_by}
 use Rattle.octo_serve_command.specs.Hosting.{Around, host_in, HasPrints}
 use Rattle.std.proofs.lemmas.Option.{same_Some}
 

@@ -11,7 +11,7 @@ use Rattle.octo_files.specs.Settings.{HaveSettings}
 use Rattle.octo_files.specs.declared.report.Report.{Report}
 use Rattle.octo_files.specs.declared.report.Report.TheVariants as report
 use Rattle.octo_api_worker.specs.declared.terms.Terms.{Terms}
-use Rattle.octo_serve.specs.Around.{DoorState}
+use Rattle.octo_outside_doors.specs.Doors.{DoorState}
 use Rattle.octo_serve.specs.Doors.{AreServed}
 use Rattle.octo_serve.specs.Hosted.{Setting, HasHosted}
 use Rattle.octo_settings.specs.declared.settings.Settings.{Settings}

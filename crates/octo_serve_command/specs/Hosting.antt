@@ -21,13 +21,17 @@ use Rattle.octo_house.specs.State.{IsListed, known_of}
 use Rattle.octo_house.specs.declared.faults.BeginFault.{BeginFault}
 use Rattle.octo_house.specs.declared.house.House.{House}
 use Rattle.octo_house_run.specs.Own.{ConnectsItself}
-use Rattle.octo_serve.specs.Around.{LinkState, KeeperState, ShelfState, DoorState, door_states}
+use Rattle.printer_link.specs.Calls.{LinkState}
+use Rattle.octo_keeper.specs.Calls.{KeeperState, ShelfState}
+use Rattle.octo_outside_doors.specs.Doors.{DoorState}
+use Rattle.octo_serve.specs.Around.{door_states}
 use Rattle.octo_serve.specs.Hosted.{Setting, HasHosted}
 use Rattle.octo_files.specs.Settings.{HaveSettings}
 use Rattle.octo_files.specs.declared.report.Report.{Report}
 use Rattle.octo_files.specs.declared.report.Report.TheVariants as report
 use Rattle.octo_settings.specs.declared.settings.Settings.{Settings}
-use Rattle.octo_serve_command.specs.Beginning.{session_by, policy_by, terms_by}
+use Rattle.octo_settings.specs.Session.{session_by}
+use Rattle.octo_serve_command.specs.Beginning.{policy_by, terms_by}
 use Rattle.octo_serve_command.specs.Reports.{begin_fault_report, served_report}
 use Rattle.octo_serve_command.specs.declared.report.HostReport.{HostReport}
 use Rattle.octo_serve_command.specs.declared.report.HostReport.TheVariants as host

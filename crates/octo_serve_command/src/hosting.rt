@@ -5,7 +5,6 @@ ghost use Rattle.octo_house.specs.declared.faults.BeginFault.TheVariants as faul
 ghost use Rattle.octo_outside.specs.Recorded.{Counts};
 ghost use Rattle.octo_files.specs.declared.report.Report.{Report};
 ghost use Rattle.octo_files.specs.declared.report.Report.TheVariants as report;
-ghost use Rattle.octo_serve.specs.Around.{link_state, keeper_state, shelf_state, door_state};
 ghost use Rattle.octo_settings.specs.Sound.{IsSettings};
 ghost use Rattle.octo_settings.specs.declared.settings.Settings.{Settings};
 ghost use Rattle.octo_serve_command.specs.Hosting.{around, ServesBy, Hosts, HasHostCauses};
@@ -107,25 +106,25 @@ fn serve_by<
     log: G,
 ) -> HostEnd
     requires sound { IsSettings settings }
-    requires down { L.up link.old ≡ false }
-    requires suits { SuitsAs settings.numbered_oks (L.past link.old) (L.kind link.old).oks }
+    requires down { (L.state link.old).up ≡ false }
+    requires suits { SuitsAs settings.numbered_oks (L.state link.old).past (L.state link.old).kind.oks }
 
-    ensures serves { let at = around (link_state L.kind L.past L.calls L.up L.faults) T.moment
-        (keeper_state K.tables K.faults) (shelf_state S.files S.faults)
-        (door_state D.coming D.served D.faults) in
+    ensures serves { let at = around (L.state) T.moment
+        (K.state) (S.state)
+        (D.state) in
         ServesBy settings (at link.old clock.old keeper.old shelf.old doors.old)
         (at link.new clock.new keeper.new shelf.new doors.new)
         result.report result.history }
-    ensures causes { let at = around (link_state L.kind L.past L.calls L.up L.faults) T.moment
-        (keeper_state K.tables K.faults) (shelf_state S.files S.faults)
-        (door_state D.coming D.served D.faults) in
+    ensures causes { let at = around (L.state) T.moment
+        (K.state) (S.state)
+        (D.state) in
         HasHostCauses (at link.old clock.old keeper.old shelf.old doors.old)
         (at link.new clock.new keeper.new shelf.new doors.new)
         result.report }
     ensures refusal { (why : Report) → result.report ≡ host.Command why → why ≡ report.NoMemory }
-    ensures down { L.up link.new ≡ false }
-    ensures kind { L.kind link.new ≡ L.kind link.old }
-    ensures recorded { is_some (L.past link.new) ≡ is_some (L.past link.old) }
+    ensures down { (L.state link.new).up ≡ false }
+    ensures kind { (L.state link.new).kind ≡ (L.state link.old).kind }
+    ensures recorded { is_some (L.state link.new).past ≡ is_some (L.state link.old).past }
 {
     let connects = settings.connect;
     let Begun { mut house, terms } = match begin_by(alloc, settings, keeper, shelf) {
@@ -168,21 +167,21 @@ pub fn host<
     doors: &mut Doors<D>,
     log: G,
 ) -> HostEnd
-    requires down { L.up link.old ≡ false }
+    requires down { (L.state link.old).up ≡ false }
     requires suits { (s : Settings) → HaveSettings (F.files files.old) (Some settings.now) (Ok s)
-        → SuitsAs s.numbered_oks (L.past link.old) (L.kind link.old).oks }
+        → SuitsAs s.numbered_oks (L.state link.old).past (L.state link.old).kind.oks }
 
     // What it comes to, and each failure by its cause.
-    ensures hosts { let at = around (link_state L.kind L.past L.calls L.up L.faults) T.moment
-        (keeper_state K.tables K.faults) (shelf_state S.files S.faults)
-        (door_state D.coming D.served D.faults) in
+    ensures hosts { let at = around (L.state) T.moment
+        (K.state) (S.state)
+        (D.state) in
         Hosts (F.files files.old) settings.now
         (at link.old clock.old keeper.old shelf.old doors.old)
         (at link.new clock.new keeper.new shelf.new doors.new)
         result.report result.history }
-    ensures causes { let at = around (link_state L.kind L.past L.calls L.up L.faults) T.moment
-        (keeper_state K.tables K.faults) (shelf_state S.files S.faults)
-        (door_state D.coming D.served D.faults) in
+    ensures causes { let at = around (L.state) T.moment
+        (K.state) (S.state)
+        (D.state) in
         HasHostCauses (at link.old clock.old keeper.old shelf.old doors.old)
         (at link.new clock.new keeper.new shelf.new doors.new)
         result.report }
@@ -191,9 +190,9 @@ pub fn host<
         → is_settings_refusal why ≡ true }
 
     // The link: it is down, what no call changes, and whether its history is recorded.
-    ensures down { L.up link.new ≡ false }
-    ensures kind { L.kind link.new ≡ L.kind link.old }
-    ensures recorded { is_some (L.past link.new) ≡ is_some (L.past link.old) }
+    ensures down { (L.state link.new).up ≡ false }
+    ensures kind { (L.state link.new).kind ≡ (L.state link.old).kind }
+    ensures recorded { is_some (L.state link.new).past ≡ is_some (L.state link.old).past }
 
     // The source, which is read before.
     ensures files { F.files files.new ≡ F.files files.old }

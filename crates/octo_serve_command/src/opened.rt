@@ -45,11 +45,11 @@ impl<K: Keeper + Drop> Opened<K> {
 impl<K: Keeper + Drop> Keeper for Opened<K> {
     ghost use Rattle.octo_serve_command.specs.Opened.{tables_of, faults_of};
 
-    ghost tables = { λ o. tables_of K.tables o.keeper };
-
-    ghost saved = { λ o. tables_of K.saved o.keeper };
-
-    ghost faults = { λ o. faults_of K.faults o.keeper o.faults };
+    ghost state = { λ o. record {
+      tables = tables_of (K.state o.keeper).tables;
+      saved = tables_of (K.state o.keeper).saved;
+      faults = faults_of (K.state o.keeper).faults o.faults;
+    } };
 
     fn load(&mut self, alloc: Global) -> Result<Tables, KeeperFault> {
         match &mut self.keeper {

@@ -55,16 +55,16 @@ fn receive<L: Link>(
     moment: u64,
     line: &mut ReplyLine,
 ) -> Received
-    requires { L.up link.old ≡ true }
-    ensures steps { Takes moment (L.kind link.old) (L.past link.old) (L.past link.new)
-        (L.calls link.old) (L.calls link.new) (received_by (got_of result line.new.items))
+    requires { (L.state link.old).up ≡ true }
+    ensures steps { Takes moment (L.state link.old).kind (L.state link.old).past (L.state link.new).past
+        (L.state link.old).calls (L.state link.new).calls (received_by (got_of result line.new.items))
         sender.old sender.new }
     ensures asked { got_of result line.new.items ≢ unasked }
     ensures temps { temps_kept result ≡ temps_in (got_of result line.new.items) }
-    ensures up { L.up link.new ≡ is_got (got_of result line.new.items) }
-    ensures kind { L.kind link.new ≡ L.kind link.old }
+    ensures up { (L.state link.new).up ≡ is_got (got_of result line.new.items) }
+    ensures kind { (L.state link.new).kind ≡ (L.state link.old).kind }
     ensures counts { Counts (is_got (got_of result line.new.items) ≡ false)
-        (L.faults link.old) (L.faults link.new) }
+        (L.state link.old).faults (L.state link.new).faults }
 {
     match link.recv(line) {
         Ok(Heard::Line) => {
@@ -171,13 +171,13 @@ fn pull_all(desk: &mut Desk, sender: &mut Sender, moment: u64) -> ArrayVec<Issue
 
 // Sends the next frame, if any.
 fn send_one<L: Link>(sender: &mut Sender, link: &mut L, moment: u64) -> Gave
-    requires { L.up link.old ≡ true }
-    ensures steps { Takes moment (L.kind link.old) (L.past link.old) (L.past link.new)
-        (L.calls link.old) (L.calls link.new) (steps_of_sending result) sender.old sender.new }
+    requires { (L.state link.old).up ≡ true }
+    ensures steps { Takes moment (L.state link.old).kind (L.state link.old).past (L.state link.new).past
+        (L.state link.old).calls (L.state link.new).calls (steps_of_sending result) sender.old sender.new }
     ensures nothing { (result ≡ gave.Nothing) ↔ (next_of sender.old ≡ None) }
-    ensures up { L.up link.new ≡ is_up_by result }
-    ensures kind { L.kind link.new ≡ L.kind link.old }
-    ensures counts { Counts (is_up_by result ≡ false) (L.faults link.old) (L.faults link.new) }
+    ensures up { (L.state link.new).up ≡ is_up_by result }
+    ensures kind { (L.state link.new).kind ≡ (L.state link.old).kind }
+    ensures counts { Counts (is_up_by result ≡ false) (L.state link.old).faults (L.state link.new).faults }
 {
     let mut line = Line::new();
     match sender.next_frame(moment, &mut line) {
@@ -191,13 +191,13 @@ fn send_one<L: Link>(sender: &mut Sender, link: &mut L, moment: u64) -> Gave
 
 // Sends every frame, and returns whether no sending failed.
 fn send_all<L: Link>(sender: &mut Sender, link: &mut L, moment: u64) -> bool
-    requires { L.up link.old ≡ true }
-    ensures steps { TakesSome moment (L.kind link.old) (L.past link.old) (L.past link.new)
-        (L.calls link.old) (L.calls link.new) (sends result) sender.old sender.new }
+    requires { (L.state link.old).up ≡ true }
+    ensures steps { TakesSome moment (L.state link.old).kind (L.state link.old).past (L.state link.new).past
+        (L.state link.old).calls (L.state link.new).calls (sends result) sender.old sender.new }
     ensures sent { result ≡ true → next_of sender.new ≡ None }
-    ensures up { L.up link.new ≡ result }
-    ensures kind { L.kind link.new ≡ L.kind link.old }
-    ensures counts { Counts (result ≡ false) (L.faults link.old) (L.faults link.new) }
+    ensures up { (L.state link.new).up ≡ result }
+    ensures kind { (L.state link.new).kind ≡ (L.state link.old).kind }
+    ensures counts { Counts (result ≡ false) (L.state link.old).faults (L.state link.new).faults }
 {
     loop {
         match send_one(sender, link, moment) {
@@ -229,7 +229,7 @@ fn issue_and_send<L: Link>(
     moment: u64,
     received: Received,
 ) -> Found
-    requires open { L.up link.old ≡ true }
+    requires open { (L.state link.old).up ≡ true }
     requires running { sender.old.ended ≡ None }
     requires counted { desk.old.issued ≡ sender.old.issued }
     requires not_fallen { desk.old.acked ≤ sender.old.acked }
@@ -248,14 +248,14 @@ fn issue_and_send<L: Link>(
     ensures ready { sender.new.ready ≡ sender.old.ready }
 
     // The steps that it took, and the link after them.
-    ensures steps { TakesSome moment (L.kind link.old) (L.past link.old) (L.past link.new)
-        (L.calls link.old) (L.calls link.new)
+    ensures steps { TakesSome moment (L.state link.old).kind (L.state link.old).past (L.state link.new).past
+        (L.state link.old).calls (L.state link.new).calls
         (issues_then_sends (is_unbroken result.fact)
         (texts_in (map line_of result.issued.items))) sender.old
         sender.new }
-    ensures up { L.up link.new ≡ up_after result.fact true }
-    ensures kind { L.kind link.new ≡ L.kind link.old }
-    ensures counts { Counts (result.fact ≡ fact.Failed) (L.faults link.old) (L.faults link.new) }
+    ensures up { (L.state link.new).up ≡ up_after result.fact true }
+    ensures kind { (L.state link.new).kind ≡ (L.state link.old).kind }
+    ensures counts { Counts (result.fact ≡ fact.Failed) (L.state link.old).faults (L.state link.new).faults }
 {
     let acked = sender.acked();
     let first = desk.note(acked, &LinkFact::Quiet, moment);
@@ -286,7 +286,7 @@ fn after_receiving<L: Link>(
     was_ready: bool,
     received: Received,
 ) -> Found
-    requires open { L.up link.old ≡ true }
+    requires open { (L.state link.old).up ≡ true }
     requires counted { desk.old.issued ≡ sender.old.issued }
     requires not_fallen { desk.old.acked ≤ sender.old.acked }
     requires stays_ready { was_ready ≡ true → sender.old.ready ≡ true }
@@ -314,13 +314,13 @@ fn after_receiving<L: Link>(
     ensures joined { IsJoined desk.new sender.new (up_after result.fact true) }
 
     // The steps that it took, and the link after them.
-    ensures steps { TakesSome moment (L.kind link.old) (L.past link.old) (L.past link.new)
-        (L.calls link.old) (L.calls link.new)
+    ensures steps { TakesSome moment (L.state link.old).kind (L.state link.old).past (L.state link.new).past
+        (L.state link.old).calls (L.state link.new).calls
         (clock_steps result.fact (texts_in (map line_of result.issued.items))) sender.old
         sender.new }
-    ensures up { L.up link.new ≡ up_after result.fact true }
-    ensures kind { L.kind link.new ≡ L.kind link.old }
-    ensures counts { Counts (result.fact ≡ fact.Failed) (L.faults link.old) (L.faults link.new) }
+    ensures up { (L.state link.new).up ≡ up_after result.fact true }
+    ensures kind { (L.state link.new).kind ≡ (L.state link.old).kind }
+    ensures counts { Counts (result.fact ≡ fact.Failed) (L.state link.old).faults (L.state link.new).faults }
 {
     if let Err(end) = sender.tick(moment) {
         link.hang_up();
@@ -343,7 +343,7 @@ pub fn receive_then_send<L: Link>(
     moment: u64,
     line: &mut ReplyLine,
 ) -> Found
-    requires open { L.up link.old ≡ true }
+    requires open { (L.state link.old).up ≡ true }
     requires joined { IsJoined desk.old sender.old true }
     requires early { NoneEarly sender.old }
 
@@ -360,13 +360,13 @@ pub fn receive_then_send<L: Link>(
     ensures joined { IsJoined desk.new sender.new (up_after result.fact true) }
 
     // The steps that it took, and the link after them.
-    ensures steps { TakesSome moment (L.kind link.old) (L.past link.old) (L.past link.new)
-        (L.calls link.old) (L.calls link.new)
+    ensures steps { TakesSome moment (L.state link.old).kind (L.state link.old).past (L.state link.new).past
+        (L.state link.old).calls (L.state link.new).calls
         (steps_over_link (got_of result.received line.new.items) result.fact
         (texts_in (map line_of result.issued.items))) sender.old sender.new }
-    ensures up { L.up link.new ≡ up_after result.fact true }
-    ensures kind { L.kind link.new ≡ L.kind link.old }
-    ensures counts { Counts (result.fact ≡ fact.Failed) (L.faults link.old) (L.faults link.new) }
+    ensures up { (L.state link.new).up ≡ up_after result.fact true }
+    ensures kind { (L.state link.new).kind ≡ (L.state link.old).kind }
+    ensures counts { Counts (result.fact ≡ fact.Failed) (L.state link.old).faults (L.state link.new).faults }
 {
     let was_ready = sender.ready();
     match receive(sender, link, moment, line) {

@@ -97,25 +97,25 @@ impl Session {
     /// If a call of the link fails the desk first takes what was acknowledged, and the failure at the end. It takes no
     /// memory. The moment is in milliseconds.
     pub fn turn<L: Link>(&mut self, link: &mut L, moment: u64) -> Turned
-        requires { L.up link.old ≡ self.old.up }
-        ensures turn { IsTurn moment (L.kind link.old) (L.past link.old) (L.past link.new)
-            (L.calls link.old) (L.calls link.new) self.old self.new result }
+        requires { (L.state link.old).up ≡ self.old.up }
+        ensures turn { IsTurn moment (L.state link.old).kind (L.state link.old).past (L.state link.new).past
+            (L.state link.old).calls (L.state link.new).calls self.old self.new result }
 
         // What it leaves of the session, by its note: the state of the link and of the hello, the count of acknowledged
         // lines, the desk, and the print that ended. A print ends as Done, and as Cancelled unless the turn hung up, only
         // once no script line waits and the last issued line of the print is acknowledged.
-        ensures by_note { IsTurnByNote moment (L.kind link.old) self.old self.new result }
+        ensures by_note { IsTurnByNote moment (L.state link.old).kind self.old self.new result }
 
         // If a print went on before the turn, it was active.
         ensures active { IsActive self.old.desk }
 
         // The link: whether it is up, what stays, and its counts of faults and calls.
-        ensures link { L.up link.new ≡ self.new.up }
-        ensures kind { L.kind link.new ≡ L.kind link.old }
+        ensures link { (L.state link.new).up ≡ self.new.up }
+        ensures kind { (L.state link.new).kind ≡ (L.state link.old).kind }
         ensures counts { Counts (fact_of result.note ≡ fact.Failed)
-            (L.faults link.old) (L.faults link.new) }
+            (L.state link.old).faults (L.state link.new).faults }
         ensures calls { is_calling (doing self.old) ≡ true
-            → RoseBy 1 (L.calls link.old) (L.calls link.new) }
+            → RoseBy 1 (L.state link.old).calls (L.state link.new).calls }
     {
         let before = self.sender.acked();
         let mut line = ReplyLine::new();

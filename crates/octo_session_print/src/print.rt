@@ -58,42 +58,42 @@ pub fn run_print<L: Link, T: Clock>(
     turns: u64,
 ) -> PrintEnd
     requires new { IsNew session.old }
-    requires down { L.up link.old ≡ false }
-    requires suits { SuitsAs session.old.sender.numbered (L.past link.old) (L.kind link.old).oks }
+    requires down { (L.state link.old).up ≡ false }
+    requires suits { SuitsAs session.old.sender.numbered (L.state link.old).past (L.state link.old).kind.oks }
 
     // If the link records its history: a prefix of the plan was issued, with `M105` put in, and `M400` if `ok`s have numbers, and
     // a prefix of that was executed, in one session at most. Each line sent in it is a hello or wasn't acknowledged then. If the
     // print is done, all of the plan was executed and acknowledged.
-    ensures printed { Recorded (L.past link.old) (L.past link.new)
-        (HasPrinted session.old.sender.numbered (L.kind link.old)
+    ensures printed { Recorded (L.state link.old).past (L.state link.new).past
+        (HasPrinted session.old.sender.numbered (L.state link.old).kind
         (plan session.old.desk.scripts (texts_of job)) result session.new.sender.acked) }
 
     // Each end by its cause; that of `LinkFailed` is in `counts` below.
     ensures too_hot { IsTooHot (first_hot_of session.old.desk.limits job.commands) result }
     ensures no_port { (result ≡ end.NoPort)
         ↔ IsUnlisted (first_hot_of session.old.desk.limits job.commands)
-        turns ((L.kind link.old).listed port.now) }
+        turns ((L.state link.old).kind.listed port.now) }
     ensures ended { (why : SessionEnd) → result ≡ end.Ended why
-        → HasEnded (L.kind link.old) (L.past link.new) session.new.sender why }
+        → HasEnded (L.state link.old).kind (L.state link.new).past session.new.sender why }
     ensures waited { HasWaited result (T.moment clock.old)
         session.old.sender.limit (T.moment clock.new) }
     ensures used { (made : ℕ) → result ≡ end.TurnsUsed made
-        → (made ≡ turns) × RoseBy turns (L.calls link.old) (L.calls link.new) }
+        → (made ≡ turns) × RoseBy turns (L.state link.old).calls (L.state link.new).calls }
 
     // Over a prompt link a print is done if it has 32 turns more than its plan has lines, if `ok`s are counted.
     ensures prompt { session.old.sender.numbered ≡ false
         → first_hot_of session.old.desk.limits job.commands ≡ None
-        → IsSmooth (L.kind link.old) (L.past link.old) port.now
-        (L.faults link.old) (L.faults link.new)
+        → IsSmooth (L.state link.old).kind (L.state link.old).past port.now
+        (L.state link.old).faults (L.state link.new).faults
         (T.moment clock.new) session.old.sender.limit session.old.desk.poll_ms
         → length (plan session.old.desk.scripts (texts_of job)) + 32 ≤ turns → result ≡ end.Done }
 
     // The link afterwards, and that a print which had no port added nothing. One that was too hot left all as it was.
-    ensures down { L.up link.new ≡ false }
-    ensures kind { L.kind link.new ≡ L.kind link.old }
+    ensures down { (L.state link.new).up ≡ false }
+    ensures kind { (L.state link.new).kind ≡ (L.state link.old).kind }
     ensures numbered { session.new.sender.numbered ≡ session.old.sender.numbered }
-    ensures counts { Counts (result ≡ end.LinkFailed) (L.faults link.old) (L.faults link.new) }
-    ensures unsent { IsUnsent result → L.past link.new ≡ L.past link.old }
+    ensures counts { Counts (result ≡ end.LinkFailed) (L.state link.old).faults (L.state link.new).faults }
+    ensures unsent { IsUnsent result → (L.state link.new).past ≡ (L.state link.old).past }
     ensures refused { is_too_hot result ≡ true → session.new ≡ session.old }
     ensures untouched { is_too_hot result ≡ true
         → (link.new ≡ link.old) × (clock.new ≡ clock.old) }
@@ -131,35 +131,35 @@ fn make_turns<L: Link, T: Clock>(
     clock: &mut T,
     turns: u64,
 ) -> PrintEnd
-    requires as_up { L.up link.old ≡ session.old.up }
-    requires begins { HasBegun (L.past link.old) session.old }
-    requires suits { SuitsAs session.old.sender.numbered (L.past link.old) (L.kind link.old).oks }
+    requires as_up { (L.state link.old).up ≡ session.old.up }
+    requires begins { HasBegun (L.state link.old).past session.old }
+    requires suits { SuitsAs session.old.sender.numbered (L.state link.old).past (L.state link.old).kind.oks }
     requires on_time { IsOnTime (T.moment clock.old) (T.moment clock.old) 0
         session.old.sender.limit session.old.sender }
 
     // How the print ends.
     ensures over { (p : PrintData)
-        → IsDialling p (port_of session.old.desk) (L.past link.old) (L.past link.old) session.old
-        → IsOver p.numbered (L.kind link.old) (plan p.scripts (print_commands p)) result
-        (L.past link.old) (L.past link.new) session.new }
+        → IsDialling p (port_of session.old.desk) (L.state link.old).past (L.state link.old).past session.old
+        → IsOver p.numbered (L.state link.old).kind (plan p.scripts (print_commands p)) result
+        (L.state link.old).past (L.state link.new).past session.new }
     ensures no_port { (result ≡ end.NoPort)
-        ↔ ((1 ≤ turns) × ((L.kind link.old).listed (port_of session.old.desk) ≡ false)) }
+        ↔ ((1 ≤ turns) × ((L.state link.old).kind.listed (port_of session.old.desk) ≡ false)) }
 
     // The link after it, and how many calls were made.
-    ensures down { L.up link.new ≡ false }
-    ensures kind { L.kind link.new ≡ L.kind link.old }
+    ensures down { (L.state link.new).up ≡ false }
+    ensures kind { (L.state link.new).kind ≡ (L.state link.old).kind }
     ensures numbered { session.new.sender.numbered ≡ session.old.sender.numbered }
-    ensures counts { Counts (result ≡ end.LinkFailed) (L.faults link.old) (L.faults link.new) }
+    ensures counts { Counts (result ≡ end.LinkFailed) (L.state link.old).faults (L.state link.new).faults }
     ensures used { (made : ℕ) → result ≡ end.TurnsUsed made
-        → (made ≡ turns) × RoseBy turns (L.calls link.old) (L.calls link.new) }
+        → (made ≡ turns) × RoseBy turns (L.state link.old).calls (L.state link.new).calls }
 
     // How long it takes, and which end it never comes to.
     ensures waited { HasWaited result (T.moment clock.old)
         session.old.sender.limit (T.moment clock.new) }
     ensures prompt { (p : PrintData) → session.old.sender.numbered ≡ false
-        → IsDialling p (port_of session.old.desk) (L.past link.old) (L.past link.old) session.old
-        → IsSmooth (L.kind link.old) (L.past link.old) (port_of session.old.desk)
-        (L.faults link.old) (L.faults link.new) (T.moment clock.new)
+        → IsDialling p (port_of session.old.desk) (L.state link.old).past (L.state link.old).past session.old
+        → IsSmooth (L.state link.old).kind (L.state link.old).past (port_of session.old.desk)
+        (L.state link.old).faults (L.state link.new).faults (T.moment clock.new)
         session.old.sender.limit session.old.desk.poll_ms
         → plan_length p + 32 < most_lines → plan_length p + 32 ≤ turns → result ≡ end.Done }
     ensures passes { (line asked limit : ℕ) → result ≢ end.TooHot line asked limit }
@@ -183,25 +183,25 @@ fn make_turn<L: Link, T: Clock>(
     clock: &mut T,
     moment: u64,
 ) -> Option<PrintEnd>
-    requires as_up { L.up link.old ≡ session.old.up }
+    requires as_up { (L.state link.old).up ≡ session.old.up }
     requires unstarted { session.old.sender.ready ≡ false → session.old.desk.greatest ≡ 0 }
 
     // Whether the print goes on.
     ensures goes { (p : PrintData) (port : List ℕ) (first : Option (List WorldEvent)) (limit : ℕ)
         → IsPatient 0 limit session.old.sender
-        → SuitsAs session.old.sender.numbered first (L.kind link.old).oks
-        → IsBetweenTurns (L.kind link.old) p port first (L.past link.old) session.old
-        → GoesOn (L.kind link.old) p port result first (L.past link.new) session.new }
+        → SuitsAs session.old.sender.numbered first (L.state link.old).kind.oks
+        → IsBetweenTurns (L.state link.old).kind p port first (L.state link.old).past session.old
+        → GoesOn (L.state link.old).kind p port result first (L.state link.new).past session.new }
     ensures no_port { (result ≡ Some end.NoPort) ↔ ((doing session.old ≡ now_doing.Dialling)
-        × ((L.kind link.old).listed (port_of session.old.desk) ≡ false)) }
+        × ((L.state link.old).kind.listed (port_of session.old.desk) ≡ false)) }
 
     // The link after it, and its calls.
-    ensures up { result ≡ None → L.up link.new ≡ session.new.up }
-    ensures down { is_some result ≡ true → L.up link.new ≡ false }
-    ensures kind { L.kind link.new ≡ L.kind link.old }
-    ensures counts { Counts (result ≡ Some end.LinkFailed) (L.faults link.old) (L.faults link.new) }
+    ensures up { result ≡ None → (L.state link.new).up ≡ session.new.up }
+    ensures down { is_some result ≡ true → (L.state link.new).up ≡ false }
+    ensures kind { (L.state link.new).kind ≡ (L.state link.old).kind }
+    ensures counts { Counts (result ≡ Some end.LinkFailed) (L.state link.old).faults (L.state link.new).faults }
     ensures calls { (session.old.up ≡ false → doing session.old ≡ now_doing.Dialling)
-        → result ≡ None → RoseBy 1 (L.calls link.old) (L.calls link.new) }
+        → result ≡ None → RoseBy 1 (L.state link.old).calls (L.state link.new).calls }
     ensures unused { (made : ℕ) → result ≢ Some (end.TurnsUsed made) }
 
     // How long it waits.
@@ -218,12 +218,12 @@ fn make_turn<L: Link, T: Clock>(
 
     // Over a prompt link; and which end it never comes to.
     ensures prompt { (p : PrintData) (poll_ms at left : ℕ)
-        → (L.kind link.old).prompt ≡ true → Steady (L.faults link.old) (L.faults link.new)
+        → (L.state link.old).kind.prompt ≡ true → Steady (L.state link.old).faults (L.state link.new).faults
         → IsUnsaturated (Some moment) session.old.sender.limit poll_ms
         → T.moment clock.old ≡ Some moment → T.moment clock.new ≡ Some at
-        → IsOnWay (L.kind link.old) p poll_ms moment left (L.past link.old) session.old
-        → LeavesOnWay result (L.kind link.old) p poll_ms at (left - 1)
-        (L.past link.new) session.new }
+        → IsOnWay (L.state link.old).kind p poll_ms moment left (L.state link.old).past session.old
+        → LeavesOnWay result (L.state link.old).kind p poll_ms at (left - 1)
+        (L.state link.new).past session.new }
     ensures passes { (line asked limit : ℕ) → result ≢ Some (end.TooHot line asked limit) }
 {
     let turned = session.turn(link, moment);

@@ -1,7 +1,10 @@
 pub mod Config
+pub mod Floor
 pub mod Groups
+pub mod Printers
 pub mod Scripts
 pub mod Sections
 pub mod Seen
+pub mod Session
 pub mod Sound
 pub mod Values

@@ -106,7 +106,8 @@ fn defaults(alloc: Global) -> Settings
     }
 }
 
-fn read_document(alloc: Global, text: &str) -> Result<Table, SettingsFault>
+// The table that a text is.
+pub(crate) fn read_document(alloc: Global, text: &str) -> Result<Table, SettingsFault>
     ensures { MatchResult result
         (λ table. document_of text.now ≡ Some (table_view table))
         (λ fault. (fault ≡ NoMemory) ⊎ ((fault ≡ NotToml) × (document_of text.now ≡ None))) }
@@ -149,7 +150,8 @@ fn read_table(alloc: Global, table: &Table) -> Result<Settings, SettingsFault>
     })
 }
 
-fn read_text(alloc: Global, text: &str) -> Result<Settings, SettingsFault>
+// The settings that a text says.
+pub(crate) fn read_text(alloc: Global, text: &str) -> Result<Settings, SettingsFault>
     ensures exact { Reads result (config text.now) }
     ensures sound { IfOk result IsSettings }
 {

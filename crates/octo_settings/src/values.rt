@@ -10,7 +10,7 @@ use crate::fault::{SettingsFault, out_of_range, wrong_kind};
 use toml::{Table, Value};
 
 // The value at a key of a table.
-fn value_of<'a>(table: &'a Table, key: &str) -> Option<&'a Value>
+pub(crate) fn value_of<'a>(table: &'a Table, key: &str) -> Option<&'a Value>
     ensures { data_of_value result ≡ get_member key.now (table_view table.now) }
 {
     table.get(key)

@@ -1,3 +1,4 @@
+pub mod Calls
 pub mod Link
 pub mod Memory
 pub mod Suits

@@ -1,5 +1,5 @@
 -- A link in memory: its schedule, its recorded history, and the events that each call adds.
-use Rattle.std.specs.Prelude.{◌≡◌, ◌≤◌, ℕ, zero, suc, ◌+◌, ◌-◌, not, ◌%◌, Bool, true, false, ◌==◌, ◌&&◌, if◌then◌else◌, List, [], ◌∷◌, ◌++◌, length, replicate, min, count_by, slice_index_or}
+use Rattle.std.specs.Prelude.{◌≡◌, ◌≤◌, ℕ, zero, suc, ◌+◌, ◌-◌, not, ◌%◌, Bool, true, false, ◌==◌, ◌&&◌, if◌then◌else◌, List, [], ◌∷◌, ◌++◌, length, Some, replicate, min, count_by, slice_index_or}
 use Rattle.std.specs.List.{list_all, list_any}
 use Rattle.std.specs.Str.{bytes_eq}
 use Rattle.arrayvec.specs.ArrayVec.{ArrayVec}
@@ -7,6 +7,7 @@ use Rattle.octo_outside.specs.Memory.{one_more, is_listed}
 use Rattle.octo_outside.specs.Recorded.{last_count}
 use Rattle.printer_model.specs.Corrupt.{corrupted}
 use Rattle.printer_model.specs.World.{WorldData, world_from, world_of, is_empty, is_free, IsFrontReply, is_send, is_opened}
+use Rattle.printer_link.specs.Calls.{LinkState}
 use Rattle.printer_link.specs.Link.{LinkKind, printer_events}
 use Rattle.printer_model.specs.declared.oks.Oks.{Oks}
 use Rattle.printer_model.specs.declared.event.WorldEvent.{WorldEvent}
@@ -183,6 +184,10 @@ is_prompt l = list_all is_whole l.story.fates && (l.slow == 0 && (is_empty l.fai
 -- what no call of a link in memory changes
 abbrev pub link_kind : MemoryLinkData → LinkKind
 link_kind l = record { slots = l.story.slots; oks = l.story.oks; prompt = is_prompt l; listed = lists_name l.names }
+
+-- what it says of itself
+abbrev pub link_state : MemoryLinkData → LinkState
+link_state l = record { kind = link_kind l; past = Some l.story.past; calls = Some l.calls; up = (link_world l).linked; faults = l.faults }
 
 -- a link that only let the printer run
 pub record LinkRan (old new : MemoryLinkData) : Type 0 where

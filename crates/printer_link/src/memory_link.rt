@@ -1,15 +1,12 @@
 //! A link to the printer in memory, which loses and corrupts lines, loses replies and fails by a schedule.
-ghost use Rattle.std.specs.Prelude.{◌≡◌, ◌≤◌, ◌∷◌, [], true, false, IfOk, OnOk, OnErr, IsErr, ◌↔◌, ℕ, IsErrOf, Err, Some, length, count_by};
+ghost use Rattle.std.specs.Prelude.{◌≡◌, ◌≤◌, true, false, IfOk, OnOk, OnErr, IsErrOf, Err, length, count_by};
 ghost use Rattle.byte_text.specs.declared.texts.TheConstants.{MOST_LINE_BYTES};
 ghost use Rattle.octo_outside.specs.Memory.{one_more, is_listed};
-ghost use Rattle.octo_outside.specs.Recorded.{Counts};
 ghost use Rattle.printer_model.specs.World.{is_loss};
 ghost use Rattle.printer_model.specs.Executed.{executed};
-ghost use Rattle.printer_link.specs.Memory.{with_one_call, closing_events, after_fault, with_added, with_one_recv, is_due, is_prompt, link_kind, lists_name, link_world, new_link, next_fate, opening_last, send_events, sends, LinkReceived};
-ghost use Rattle.printer_link.specs.Link.{HasSlots, Grows, IsDial, IsHangUp, IsHeard, IsLoss, IsNothing, IsOpenAs, IsRuns, IsSend, IsSendLoss, IsSendOf, IsSilence, counted_one, dial_events, recv_events};
-ghost use Rattle.printer_model.specs.declared.event.WorldEvent.{WorldEvent};
-ghost use Rattle.printer_model.specs.declared.event.WorldEvent.TheVariants as event;
-ghost use Rattle.printer_link.specs.declared.link.Heard.TheVariants as heard_as;
+ghost use Rattle.printer_link.specs.Memory.{with_one_call, closing_events, after_fault, with_added, with_one_recv, is_due, lists_name, link_state, link_world, new_link, next_fate, opening_last, send_events, sends, LinkReceived};
+ghost use Rattle.printer_link.specs.Calls.{Dials, Sends, Hears, HangsUp};
+ghost use Rattle.printer_link.specs.Link.{dial_events};
 ghost use Rattle.printer_link.specs.declared.link.LinkFault.TheVariants as fault;
 
 use crate::link::{Heard, Link, LinkFault};
@@ -150,15 +147,7 @@ impl MemoryLink {
 }
 
 impl Link for MemoryLink {
-    ghost past = { λ l. Some l.story.past };
-
-    ghost kind = { link_kind };
-
-    ghost calls = { λ l. Some l.calls };
-
-    ghost up = { λ l. (link_world l).linked };
-
-    ghost faults = { λ l. l.faults };
+    ghost state = { link_state };
 
     fn dial(&mut self, name: &str) -> Result<(), LinkFault>
         requires { (link_world self.old).linked ≡ false }
@@ -172,32 +161,8 @@ impl Link for MemoryLink {
             → lists_name self.old.names name.now ≡ true
             → (result ≡ Err fault.Failed) × (self.new ≡ after_fault (with_one_call self.old)) }
 
-        // What its history says of it.
-        ensures past { OnOk result (Grows (link_kind self.old) (Some self.old.story.past)
-            (Some self.new.story.past) IsDial) }
-        ensures past_no_port { IsErrOf result fault.NoPort
-            → Grows (link_kind self.old) (Some self.old.story.past) (Some self.new.story.past)
-            IsNothing }
-        ensures past_failed { IsErrOf result fault.Failed
-            → Grows (link_kind self.old) (Some self.old.story.past) (Some self.new.story.past)
-            IsRuns }
-        ensures past_prompt { is_prompt self.old ≡ true
-            → OnOk result (Grows (link_kind self.old) (Some self.old.story.past)
-            (Some self.new.story.past) (λ w added. (last : ℕ) × (added ≡ dial_events w last))) }
-
-        // Whether the port is listed, and whether the link is up.
-        ensures no_port { IsErrOf result fault.NoPort
-            ↔ (lists_name self.old.names name.now ≡ false) }
-        ensures up { OnOk result ((link_world self.new).linked ≡ true) }
-        ensures down { OnErr result ((link_world self.new).linked ≡ false) }
-        ensures open { IsOpenAs (link_kind self.new) (Some self.new.story.past)
-            (link_world self.new).linked }
-
-        // Counts, and what stays.
-        ensures slots { HasSlots (link_kind self.new) }
-        ensures kind { link_kind self.new ≡ link_kind self.old }
-        ensures calls { Some self.new.calls ≡ counted_one (Some self.old.calls) }
-        ensures counts { Counts (IsErrOf result fault.Failed) self.old.faults self.new.faults }
+        // What every link says.
+        ensures dials { Dials (link_state self.old) name.now result (link_state self.new) }
     {
         let fails = self.begin();
         if !self.lists(name) {
@@ -224,28 +189,8 @@ impl Link for MemoryLink {
         ensures fails { is_listed self.old.fail_at (one_more self.old.calls) ≡ true
             → result ≡ Err fault.Failed }
 
-        // What its history says of it.
-        ensures past { OnOk result (Grows (link_kind self.old) (Some self.old.story.past)
-            (Some self.new.story.past) (IsSend line.now.items)) }
-        ensures past_failed { OnErr result
-            (Grows (link_kind self.old) (Some self.old.story.past) (Some self.new.story.past)
-            IsSendLoss) }
-        ensures past_prompt { is_prompt self.old ≡ true
-            → OnOk result (Grows (link_kind self.old) (Some self.old.story.past)
-            (Some self.new.story.past) (λ w added. (sent : WorldEvent) × (added ≡ sent ∷ [])
-            × IsSendOf line.now.items sent)) }
-
-        // Whether the link is up.
-        ensures no_port { IsErrOf result fault.NoPort → ⊥ }
-        ensures up { OnOk result ((link_world self.new).linked ≡ true) }
-        ensures down { OnErr result ((link_world self.new).linked ≡ false) }
-        ensures open { IsOpenAs (link_kind self.new) (Some self.new.story.past)
-            (link_world self.new).linked }
-
-        // Counts, and what stays.
-        ensures kind { link_kind self.new ≡ link_kind self.old }
-        ensures calls { Some self.new.calls ≡ counted_one (Some self.old.calls) }
-        ensures counts { Counts (IsErr result) self.old.faults self.new.faults }
+        // What every link says.
+        ensures sends { Sends (link_state self.old) line.now.items result (link_state self.new) }
     {
         let fails = self.begin();
         if fails {
@@ -269,32 +214,8 @@ impl Link for MemoryLink {
             → (result ≡ Err fault.Failed)
             × (self.new ≡ after_fault (with_one_recv (with_one_call self.old))) }
 
-        // What its history says of it.
-        ensures past { IfOk result (λ got. got ≡ heard_as.Line
-            → Grows (link_kind self.old) (Some self.old.story.past) (Some self.new.story.past)
-            (IsHeard into.new.items)) }
-        ensures past_nothing { IfOk result
-            (λ got. got ≡ heard_as.Nothing
-            → Grows (link_kind self.old) (Some self.old.story.past) (Some self.new.story.past)
-            IsSilence) }
-        ensures past_failed { OnErr result
-            (Grows (link_kind self.old) (Some self.old.story.past) (Some self.new.story.past)
-            IsLoss) }
-        ensures past_prompt { is_prompt self.old ≡ true
-            → OnOk result (Grows (link_kind self.old) (Some self.old.story.past)
-            (Some self.new.story.past) (λ w added. added ≡ recv_events true w)) }
-
-        // Whether the link is up.
-        ensures no_port { IsErrOf result fault.NoPort → ⊥ }
-        ensures up { OnOk result ((link_world self.new).linked ≡ true) }
-        ensures down { OnErr result ((link_world self.new).linked ≡ false) }
-        ensures open { IsOpenAs (link_kind self.new) (Some self.new.story.past)
-            (link_world self.new).linked }
-
-        // Counts, and what stays.
-        ensures kind { link_kind self.new ≡ link_kind self.old }
-        ensures calls { Some self.new.calls ≡ counted_one (Some self.old.calls) }
-        ensures counts { Counts (IsErr result) self.old.faults self.new.faults }
+        // What every link says.
+        ensures hears { Hears (link_state self.old) result into.new.items (link_state self.new) }
     {
         let fails = self.begin();
         let due = self.begin_recv();
@@ -310,12 +231,7 @@ impl Link for MemoryLink {
 
     fn hang_up(&mut self)
         ensures adds { self.new ≡ with_added self.old (closing_events (link_world self.old)) }
-        ensures past { Grows (link_kind self.old) (Some self.old.story.past)
-            (Some self.new.story.past) (IsHangUp (link_world self.old).linked) }
-        ensures down { (link_world self.new).linked ≡ false }
-        ensures kind { link_kind self.new ≡ link_kind self.old }
-        ensures calls { self.new.calls ≡ self.old.calls }
-        ensures faults { self.new.faults ≡ self.old.faults }
+        ensures hangs_up { HangsUp (link_state self.old) (link_state self.new) }
     {
         self.story.close();
     }

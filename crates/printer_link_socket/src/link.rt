@@ -118,20 +118,18 @@ impl<D: Dial + Drop> PortLink<D> {
 }
 
 impl<D: Dial + Drop> Link for PortLink<D> {
-    ghost past = { λ _. None };
-
-    ghost kind = { λ _. record {
-      slots = 4;
-      oks = record { numbered = false; lost = false };
-      prompt = false;
-      listed = names_port;
+    ghost state = { λ l. record {
+      kind = record {
+        slots = 4;
+        oks = record { numbered = false; lost = false };
+        prompt = false;
+        listed = names_port;
+      };
+      past = None;
+      calls = None;
+      up = l.up;
+      faults = l.faults;
     } };
-
-    ghost calls = { λ _. None };
-
-    ghost up = { λ l. l.up };
-
-    ghost faults = { λ l. l.faults };
 
     /// Connects to the port of that name. Fails if its stream can't be opened, and with `NoPort` if the name isn't a port's.
     fn dial(&mut self, name: &str) -> Result<(), LinkFault>

@@ -50,15 +50,13 @@ impl LossyLink {
 }
 
 impl Link for LossyLink {
-    ghost past = { λ _. None };
-
-    ghost kind = { link_kind };
-
-    ghost calls = { λ _. None };
-
-    ghost up = { λ l. (link_world l).linked };
-
-    ghost faults = { λ l. l.faults };
+    ghost state = { λ l. record {
+      kind = link_kind l;
+      past = None;
+      calls = None;
+      up = (link_world l).linked;
+      faults = l.faults;
+    } };
 
     fn dial(&mut self, name: &str) -> Result<(), LinkFault> {
         self.link.dial(name)

@@ -100,11 +100,7 @@ fn leaves(request: &Request) -> u32 {
 }
 
 impl Asker for Host {
-    ghost place = { λ _. no_place };
-
-    ghost mine = { λ _. None };
-
-    ghost saw_close = { λ h. h.saw_close };
+    ghost state = { λ h. record { place = no_place; mine = None; saw_close = h.saw_close } };
 
     fn ask(&mut self, ask: Ask) -> Result<Answer, Closed> {
         if self.open_for == 0 {

@@ -1,6 +1,5 @@
 //! The settings of a floor.
-use octo_floor_settings::{FloorSettings, read_floor_settings};
-use octo_settings::SettingsFault;
+use octo_settings::{FloorSettings, SettingsFault, read_floor_settings};
 use std::alloc::Global;
 use std::process::Abort;
 use std::test::Fail;

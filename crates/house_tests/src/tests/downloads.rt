@@ -18,9 +18,7 @@ struct Ahead;
 impl Shelf for Ahead {
     type Stager = NoStager;
 
-    ghost files = { λ _. None };
-
-    ghost faults = { λ _. 0 };
+    ghost state = { λ _. record { files = None; faults = 0 } };
 
     fn list(&mut self, alloc: Global) -> Result<FileList, ShelfFault> {
         Ok(FileList::new(alloc))

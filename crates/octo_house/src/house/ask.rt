@@ -46,20 +46,20 @@ impl House {
             keeper.old keeper.new shelf.old shelf.new self.old self.new }
 
         // The answer, and what it leaves of the host and of the files.
-        ensures done { AnswersOn (S.files shelf.old)
+        ensures done { AnswersOn (S.state shelf.old).files
             (λ files. verdict ask files (known_of self.old)) result self.old self.new }
         ensures some { AnswersOnSome
             (λ files. verdict ask files (known_of self.old)) result self.old self.new }
-        ensures files { Shelves (S.files shelf.old) (S.files shelf.new)
+        ensures files { Shelves (S.state shelf.old).files (S.state shelf.new).files
             (λ files. verdict ask files (known_of self.old)) result }
 
         // A backup that is accepted has the tables as they were.
         ensures saved { ask.request ≡ Backup → result ≡ answer.Accepted
-            → K.saved keeper.new ≡ K.tables keeper.old }
+            → (K.state keeper.new).saved ≡ (K.state keeper.old).tables }
 
         // What it leaves else, and the counts of faults.
-        ensures rest { AskDone K.tables K.faults S.files S.faults
-            keeper.old keeper.new shelf.old shelf.new result self.old self.new }
+        ensures rest { AskDone (K.state keeper.old) (K.state keeper.new)
+            (S.state shelf.old) (S.state shelf.new) result self.old self.new }
     {
         if is_free(&ask.request) {
             return self.free(&ask);
@@ -134,19 +134,19 @@ impl House {
         user: &UserRow,
         request: Request,
     ) -> Answer
-        ensures done { AnswersOn (S.files shelf.old)
+        ensures done { AnswersOn (S.state shelf.old).files
             (λ files. request_verdict request user.now files (known_of self.old))
             result self.old self.new }
         ensures some { is_reading request ≡ true → AnswersOnSome
             (λ files. request_verdict request user.now files (known_of self.old))
             result self.old self.new }
         ensures granted { is_reading request ≡ true → is_denied result ≡ false }
-        ensures files { Shelves (S.files shelf.old) (S.files shelf.new)
+        ensures files { Shelves (S.state shelf.old).files (S.state shelf.new).files
             (λ files. request_verdict request user.now files (known_of self.old)) result }
         ensures saved { request ≡ Backup → result ≡ answer.Accepted
-            → K.saved keeper.new ≡ K.tables keeper.old }
-        ensures rest { AskDone K.tables K.faults S.files S.faults
-            keeper.old keeper.new shelf.old shelf.new result self.old self.new }
+            → (K.state keeper.new).saved ≡ (K.state keeper.old).tables }
+        ensures rest { AskDone (K.state keeper.old) (K.state keeper.new)
+            (S.state shelf.old) (S.state shelf.new) result self.old self.new }
     {
         match request {
             Request::PutFile {
@@ -173,19 +173,19 @@ impl House {
         request: &Request,
     ) -> Answer
         requires { has_file request.now ≡ false }
-        ensures done { AnswersOn (S.files shelf.old)
+        ensures done { AnswersOn (S.state shelf.old).files
             (λ files. request_verdict request.now user.now files (known_of self.old))
             result self.old self.new }
         ensures some { is_reading request.now ≡ true → AnswersOnSome
             (λ files. request_verdict request.now user.now files (known_of self.old))
             result self.old self.new }
         ensures granted { is_reading request.now ≡ true → is_denied result ≡ false }
-        ensures files { Shelves (S.files shelf.old) (S.files shelf.new)
+        ensures files { Shelves (S.state shelf.old).files (S.state shelf.new).files
             (λ files. request_verdict request.now user.now files (known_of self.old)) result }
         ensures saved { request.now ≡ Backup → result ≡ answer.Accepted
-            → K.saved keeper.new ≡ K.tables keeper.old }
-        ensures rest { AskDone K.tables K.faults S.files S.faults
-            keeper.old keeper.new shelf.old shelf.new result self.old self.new }
+            → (K.state keeper.new).saved ≡ (K.state keeper.old).tables }
+        ensures rest { AskDone (K.state keeper.old) (K.state keeper.new)
+            (S.state shelf.old) (S.state shelf.new) result self.old self.new }
     {
         match request {
             Request::Version => Answer::Version,
@@ -226,17 +226,17 @@ impl House {
         request: &Request,
     ) -> Answer
         requires { is_edit request.now ≡ true }
-        ensures done { AnswersOn (S.files shelf.old)
+        ensures done { AnswersOn (S.state shelf.old).files
             (λ files. request_verdict request.now user.now files (known_of self.old))
             result self.old self.new }
         ensures some { is_reading request.now ≡ true → AnswersOnSome
             (λ files. request_verdict request.now user.now files (known_of self.old))
             result self.old self.new }
         ensures granted { is_reading request.now ≡ true → is_denied result ≡ false }
-        ensures files { Shelves (S.files shelf.old) (S.files shelf.new)
+        ensures files { Shelves (S.state shelf.old).files (S.state shelf.new).files
             (λ files. request_verdict request.now user.now files (known_of self.old)) result }
-        ensures rest { AskDone K.tables K.faults S.files S.faults
-            keeper.old keeper.new shelf.old shelf.new result self.old self.new }
+        ensures rest { AskDone (K.state keeper.old) (K.state keeper.new)
+            (S.state shelf.old) (S.state shelf.new) result self.old self.new }
     {
         match request {
             Request::SelectFile { name, print: true } => {
@@ -257,7 +257,7 @@ impl House {
         ensures done { (files : List ShelfFile) → Answers
             (request_verdict request.now user.now files (known_of self.old)) result
             self.old self.new }
-        ensures rest { KeeperDone K.tables K.faults keeper.old keeper.new
+        ensures rest { KeeperDone (K.state keeper.old) (K.state keeper.new)
             result self.old self.new }
     {
         match request {
@@ -294,8 +294,8 @@ impl House {
     // Has the keeper write a copy of the tables.
     fn backup<K: Keeper>(&self, keeper: &mut K) -> Answer
         ensures done { Answers (backup_verdict (known_of self.now)) result self.now self.now }
-        ensures saved { result ≡ answer.Accepted → K.saved keeper.new ≡ K.tables keeper.old }
-        ensures rest { KeeperDone K.tables K.faults keeper.old keeper.new
+        ensures saved { result ≡ answer.Accepted → (K.state keeper.new).saved ≡ (K.state keeper.old).tables }
+        ensures rest { KeeperDone (K.state keeper.old) (K.state keeper.new)
             result self.now self.now }
     {
         match keeper.backup(self.desk.alloc) {
@@ -312,7 +312,7 @@ impl House {
             asked.now.priority asked.now.copies asked.now.material }
         ensures done { Answers (put_entry_verdict asked.now (known_of self.old)) result
             self.old self.new }
-        ensures rest { KeeperDone K.tables K.faults keeper.old keeper.new
+        ensures rest { KeeperDone (K.state keeper.old) (K.state keeper.new)
             result self.old self.new }
     {
         if !self.holds(&asked.file) {

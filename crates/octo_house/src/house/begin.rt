@@ -48,21 +48,21 @@ impl House {
         ensures made { IfOk result (λ house. IsMadeOf session policy ports material house) }
         ensures begins { IfOk result (λ house.
             BeginsOn session policy ports material
-            (K.tables keeper.old) (S.files shelf.old) house) }
+            (K.state keeper.old).tables (S.state shelf.old).files house) }
 
         // Keeper and shelf hold what they held, and it is the host's.
-        ensures tables { K.tables keeper.new ≡ K.tables keeper.old }
-        ensures files { S.files shelf.new ≡ S.files shelf.old }
-        ensures kept { IfOk result (λ house. (tables : Tables) → K.tables keeper.new ≡ Some tables
+        ensures tables { (K.state keeper.new).tables ≡ (K.state keeper.old).tables }
+        ensures files { (S.state shelf.new).files ≡ (S.state shelf.old).files }
+        ensures kept { IfOk result (λ house. (tables : Tables) → (K.state keeper.new).tables ≡ Some tables
             → IsUserTable tables.users → IsLawful tables.queue
-            → IsKept (length tables.prints) (K.tables keeper.new) house.tables) }
-        ensures listed { IfOk result (λ house. IsListed (S.files shelf.new) house) }
+            → IsKept (length tables.prints) (K.state keeper.new).tables house.tables) }
+        ensures listed { IfOk result (λ house. IsListed (S.state shelf.new).files house) }
 
         // Faults, by their counts.
         ensures keeper { Counts (IsErrOf result fault.KeeperFailed)
-            (K.faults keeper.old) (K.faults keeper.new) }
+            (K.state keeper.old).faults (K.state keeper.new).faults }
         ensures shelf { Counts (IsErrOf result fault.ShelfFailed)
-            (S.faults shelf.old) (S.faults shelf.new) }
+            (S.state shelf.old).faults (S.state shelf.new).faults }
     {
         match read_kept(alloc, keeper, shelf) {
             Ok((tables, names)) => Ok(House {
@@ -87,10 +87,10 @@ impl House {
 
 // The tables of a new host, by what the keeper keeps.
 fn load_tables<K: Keeper>(alloc: Global, keeper: &mut K) -> Result<HostTables, BeginFault>
-    ensures read { IfOk result (IsLoaded (K.tables keeper.old)) }
-    ensures tables { K.tables keeper.new ≡ K.tables keeper.old }
+    ensures read { IfOk result (IsLoaded (K.state keeper.old).tables) }
+    ensures tables { (K.state keeper.new).tables ≡ (K.state keeper.old).tables }
     ensures keeper { Counts (IsErrOf result fault.KeeperFailed)
-        (K.faults keeper.old) (K.faults keeper.new) }
+        (K.state keeper.old).faults (K.state keeper.new).faults }
     ensures other { IsErrOf result fault.ShelfFailed → ⊥ }
 {
     match keeper.load(alloc) {
@@ -102,10 +102,10 @@ fn load_tables<K: Keeper>(alloc: Global, keeper: &mut K) -> Result<HostTables, B
 // The names of the files that the shelf holds.
 fn list_names<S: Shelf>(alloc: Global, shelf: &mut S) -> Result<Vec<Name>, BeginFault>
     ensures names { IfOk result (λ names.
-        IfSome (S.files shelf.old) (λ held. names.items ≡ names_of held)) }
-    ensures files { S.files shelf.new ≡ S.files shelf.old }
+        IfSome (S.state shelf.old).files (λ held. names.items ≡ names_of held)) }
+    ensures files { (S.state shelf.new).files ≡ (S.state shelf.old).files }
     ensures shelf { Counts (IsErrOf result fault.ShelfFailed)
-        (S.faults shelf.old) (S.faults shelf.new) }
+        (S.state shelf.old).faults (S.state shelf.new).faults }
     ensures other { IsErrOf result fault.KeeperFailed → ⊥ }
 {
     let files = match shelf.list(alloc) {
@@ -124,15 +124,15 @@ fn read_kept<K: Keeper, S: Shelf>(
     keeper: &mut K,
     shelf: &mut S,
 ) -> Result<(HostTables, Vec<Name>), BeginFault>
-    ensures read { IfOk result (λ read. IsLoaded (K.tables keeper.old) read.0) }
+    ensures read { IfOk result (λ read. IsLoaded (K.state keeper.old).tables read.0) }
     ensures names { IfOk result (λ read.
-        IfSome (S.files shelf.old) (λ held. read.1.items ≡ names_of held)) }
-    ensures tables { K.tables keeper.new ≡ K.tables keeper.old }
-    ensures files { S.files shelf.new ≡ S.files shelf.old }
+        IfSome (S.state shelf.old).files (λ held. read.1.items ≡ names_of held)) }
+    ensures tables { (K.state keeper.new).tables ≡ (K.state keeper.old).tables }
+    ensures files { (S.state shelf.new).files ≡ (S.state shelf.old).files }
     ensures keeper { Counts (IsErrOf result fault.KeeperFailed)
-        (K.faults keeper.old) (K.faults keeper.new) }
+        (K.state keeper.old).faults (K.state keeper.new).faults }
     ensures shelf { Counts (IsErrOf result fault.ShelfFailed)
-        (S.faults shelf.old) (S.faults shelf.new) }
+        (S.state shelf.old).faults (S.state shelf.new).faults }
 {
     let tables = load_tables(alloc, keeper)?;
     let names = list_names(alloc, shelf)?;

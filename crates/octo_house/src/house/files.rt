@@ -21,10 +21,10 @@ use octo_keeper::{Fetched, Shelf};
 impl House {
     // All files.
     pub(super) fn list_files<S: Shelf>(&self, shelf: &mut S) -> Answer
-        ensures done { AnswersOn (S.files shelf.old) list_files_verdict result self.now self.now }
+        ensures done { AnswersOn (S.state shelf.old).files list_files_verdict result self.now self.now }
         ensures some { AnswersOnSome list_files_verdict result self.now self.now }
         ensures granted { is_denied result ≡ false }
-        ensures rest { ShelfDone S.files S.faults shelf.old shelf.new result }
+        ensures rest { ShelfDone (S.state shelf.old) (S.state shelf.new) result }
     {
         let files = match shelf.list(self.desk.alloc) {
             Ok(files) => files,
@@ -38,14 +38,14 @@ impl House {
 
     // One file.
     pub(super) fn file<S: Shelf>(&self, shelf: &mut S, name: &Name) -> Answer
-        ensures done { AnswersOn (S.files shelf.old)
+        ensures done { AnswersOn (S.state shelf.old).files
             (λ files. get_file_verdict name.now files (known_of self.now))
             result self.now self.now }
         ensures some { AnswersOnSome
             (λ files. get_file_verdict name.now files (known_of self.now))
             result self.now self.now }
         ensures granted { is_denied result ≡ false }
-        ensures rest { ShelfDone S.files S.faults shelf.old shelf.new result }
+        ensures rest { ShelfDone (S.state shelf.old) (S.state shelf.new) result }
     {
         if !self.holds(name) {
             return Answer::NoFile;
@@ -68,14 +68,14 @@ impl House {
         name: &Name,
         fetched: Option<Fetched>,
     ) -> Answer
-        ensures done { AnswersOn (S.files shelf.old)
+        ensures done { AnswersOn (S.state shelf.old).files
             (λ files. download_verdict name.now files (known_of self.now))
             result self.now self.now }
         ensures some { AnswersOnSome
             (λ files. download_verdict name.now files (known_of self.now))
             result self.now self.now }
         ensures granted { is_denied result ≡ false }
-        ensures rest { ShelfDone S.files S.faults shelf.old shelf.new result }
+        ensures rest { ShelfDone (S.state shelf.old) (S.state shelf.new) result }
     {
         if !self.holds(name) {
             return Answer::NoFile;
@@ -104,12 +104,12 @@ impl House {
     pub(super) fn delete_file<S: Shelf>(&mut self, shelf: &mut S, name: &Name) -> Answer
         ensures done { Answers
             (delete_verdict name.now (known_of self.old)) result self.old self.new }
-        ensures files { Shelves (S.files shelf.old) (S.files shelf.new)
+        ensures files { Shelves (S.state shelf.old).files (S.state shelf.new).files
             (λ _. delete_verdict name.now (known_of self.old)) result }
         ensures rows { AreRowsLeft self.old self.new }
-        ensures listed { IsListed (S.files shelf.old) self.old
-            → IsListed (S.files shelf.new) self.new }
-        ensures shelf { Counts (is_shelfs result ≡ true) (S.faults shelf.old) (S.faults shelf.new) }
+        ensures listed { IsListed (S.state shelf.old).files self.old
+            → IsListed (S.state shelf.new).files self.new }
+        ensures shelf { Counts (is_shelfs result ≡ true) (S.state shelf.old).faults (S.state shelf.new).faults }
         ensures keeper { is_keepers result ≡ false }
     {
         if !self.holds(name) {

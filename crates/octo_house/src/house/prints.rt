@@ -48,7 +48,7 @@ impl House {
     pub(super) fn start<K: Keeper>(&mut self, keeper: &mut K, user: &Name) -> Answer
         ensures done { Answers (start_verdict user.now (known_of self.old)) result
             self.old self.new }
-        ensures rest { KeeperDone K.tables K.faults keeper.old keeper.new
+        ensures rest { KeeperDone (K.state keeper.old) (K.state keeper.new)
             result self.old self.new }
     {
         if let Err(refusal) = self.may_start() {
@@ -83,7 +83,7 @@ impl House {
     pub(super) fn restart<K: Keeper>(&mut self, keeper: &mut K, user: &Name) -> Answer
         ensures done { Answers (restart_verdict user.now (known_of self.old)) result
             self.old self.new }
-        ensures rest { KeeperDone K.tables K.faults keeper.old keeper.new
+        ensures rest { KeeperDone (K.state keeper.old) (K.state keeper.new)
             result self.old self.new }
     {
         let print = match self.may_restart() {

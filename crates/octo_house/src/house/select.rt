@@ -31,7 +31,7 @@ fn may_start(state: State) -> bool
 impl House {
     // Selects a file.
     pub(super) fn select_named<S: Shelf>(&mut self, shelf: &mut S, name: &Name) -> Answer
-        ensures done { AnswersOn (S.files shelf.old)
+        ensures done { AnswersOn (S.state shelf.old).files
             (λ files. select_verdict [] name.now false files (known_of self.old)) result
             self.old self.new }
         ensures some { AnswersOnSome
@@ -39,7 +39,7 @@ impl House {
             self.old self.new }
         ensures granted { is_denied result ≡ false }
         ensures alone { IsDeskAlone self.old self.new }
-        ensures rest { ShelfDone S.files S.faults shelf.old shelf.new result }
+        ensures rest { ShelfDone (S.state shelf.old) (S.state shelf.new) result }
     {
         if !self.holds(name) {
             return Answer::NoFile;
@@ -65,15 +65,15 @@ impl House {
         user: &Name,
         name: &Name,
     ) -> Answer
-        ensures done { AnswersOn (S.files shelf.old)
+        ensures done { AnswersOn (S.state shelf.old).files
             (λ files. select_verdict user.now name.now true files (known_of self.old)) result
             self.old self.new }
         ensures some { AnswersOnSome
             (λ files. select_verdict user.now name.now true files (known_of self.old)) result
             self.old self.new }
         ensures granted { is_denied result ≡ false }
-        ensures rest { PrintDone K.tables K.faults S.files S.faults
-            keeper.old keeper.new shelf.old shelf.new result self.old self.new }
+        ensures rest { PrintDone (K.state keeper.old) (K.state keeper.new)
+            (S.state shelf.old) (S.state shelf.new) result self.old self.new }
     {
         if !self.holds(name) {
             return Answer::NoFile;
@@ -101,7 +101,7 @@ impl House {
         ensures done { Answers (print_verdict (taken_answer taken) user.now
             (with_taken taken self.old.tables.queue) (known_of self.old)
             (named_file name.now job)) result self.old self.new }
-        ensures rest { KeeperDone K.tables K.faults keeper.old keeper.new
+        ensures rest { KeeperDone (K.state keeper.old) (K.state keeper.new)
             result self.old self.new }
     {
         if let Err(refusal) = check_job(&job, self.desk.session.desk().limits()) {
@@ -127,13 +127,13 @@ impl House {
         keeper: &mut K,
         shelf: &mut S,
     ) -> Answer
-        ensures done { AnswersOn (S.files shelf.old)
+        ensures done { AnswersOn (S.state shelf.old).files
             (λ files. next_verdict files (known_of self.old)) result self.old self.new }
         ensures some { AnswersOnSome
             (λ files. next_verdict files (known_of self.old)) result self.old self.new }
         ensures granted { is_denied result ≡ false }
-        ensures rest { PrintDone K.tables K.faults S.files S.faults
-            keeper.old keeper.new shelf.old shelf.new result self.old self.new }
+        ensures rest { PrintDone (K.state keeper.old) (K.state keeper.new)
+            (S.state shelf.old) (S.state shelf.new) result self.old self.new }
     {
         let state = self.desk.session.desk().state();
         if !may_start(state) {
@@ -153,13 +153,13 @@ impl House {
         entry: QueueEntry,
     ) -> Answer
         requires { self.old.desk.session.desk.state ≡ state.Operational }
-        ensures done { AnswersOn (S.files shelf.old)
+        ensures done { AnswersOn (S.state shelf.old).files
             (λ files. take_verdict files (known_of self.old) entry) result self.old self.new }
         ensures some { AnswersOnSome
             (λ files. take_verdict files (known_of self.old) entry) result self.old self.new }
         ensures granted { is_denied result ≡ false }
-        ensures rest { PrintDone K.tables K.faults S.files S.faults
-            keeper.old keeper.new shelf.old shelf.new result self.old self.new }
+        ensures rest { PrintDone (K.state keeper.old) (K.state keeper.new)
+            (S.state shelf.old) (S.state shelf.new) result self.old self.new }
     {
         if !self.holds(&entry.file) {
             return Answer::NoFile;

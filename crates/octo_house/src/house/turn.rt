@@ -34,20 +34,20 @@ impl House {
     /// its record says so, and the keeper writes that end; if it can't, each later turn tries again. It takes no memory,
     /// the keeper aside.
     pub fn turn<L: Link, K: Keeper>(&mut self, link: &mut L, keeper: &mut K, moment: u64) -> Turned
-        requires { L.up link.old ≡ self.old.desk.session.up }
+        requires { (L.state link.old).up ≡ self.old.desk.session.up }
 
         // The session takes a turn of its own.
-        ensures turn { IsTurn moment (L.kind link.old) (L.past link.old) (L.past link.new)
-            (L.calls link.old) (L.calls link.new)
+        ensures turn { IsTurn moment (L.state link.old).kind (L.state link.old).past (L.state link.new).past
+            (L.state link.old).calls (L.state link.new).calls
             self.old.desk.session self.new.desk.session result }
-        ensures by_note { IsTurnByNote moment (L.kind link.old)
+        ensures by_note { IsTurnByNote moment (L.state link.old).kind
             self.old.desk.session self.new.desk.session result }
-        ensures link { L.up link.new ≡ self.new.desk.session.up }
-        ensures kind { L.kind link.new ≡ L.kind link.old }
+        ensures link { (L.state link.new).up ≡ self.new.desk.session.up }
+        ensures kind { (L.state link.new).kind ≡ (L.state link.old).kind }
 
         // What the host knows then, and what the keeper keeps.
         ensures knows { Turns moment result.note result.ending self.old self.new }
-        ensures kept { KeepsRows (K.tables keeper.old) (K.tables keeper.new)
+        ensures kept { KeepsRows (K.state keeper.old).tables (K.state keeper.new).tables
             self.old.tables self.new.tables }
         ensures names { self.new.names.items ≡ self.old.names.items }
         ensures due { (due_of self.new.tables ≡ None)
@@ -55,11 +55,11 @@ impl House {
 
         // Counts: of the link's calls and faults, and of the keeper's faults if an end isn't written.
         ensures calls { is_calling (doing self.old.desk.session) ≡ true
-            → RoseBy 1 (L.calls link.old) (L.calls link.new) }
+            → RoseBy 1 (L.state link.old).calls (L.state link.new).calls }
         ensures counts { Counts (fact_of result.note ≡ fact.Failed)
-            (L.faults link.old) (L.faults link.new) }
+            (L.state link.old).faults (L.state link.new).faults }
         ensures unwritten { Counts (is_unwritten_by_fault self.new.tables.unwritten ≡ true)
-            (K.faults keeper.old) (K.faults keeper.new) }
+            (K.state keeper.old).faults (K.state keeper.new).faults }
     {
         let turned = self.desk.session.turn(link, moment);
         self.desk.temps = temps_after_turn(&turned.note, self.desk.temps);

@@ -50,11 +50,11 @@ impl House {
     ) -> Answer
         ensures done { Answers (put_file_verdict user.now name.now file
             asked.select asked.print (known_of self.old)) result self.old self.new }
-        ensures files { Shelves (S.files shelf.old) (S.files shelf.new)
+        ensures files { Shelves (S.state shelf.old).files (S.state shelf.new).files
             (λ _. put_file_verdict user.now name.now file
             asked.select asked.print (known_of self.old)) result }
-        ensures rest { AskDone K.tables K.faults S.files S.faults
-            keeper.old keeper.new shelf.old shelf.new result self.old self.new }
+        ensures rest { AskDone (K.state keeper.old) (K.state keeper.new)
+            (S.state shelf.old) (S.state shelf.new) result self.old self.new }
     {
         let part = file.part();
         let job = match file.into_job() {
@@ -89,14 +89,14 @@ impl House {
         ensures stored { MatchResult result
             (λ _. IsStored name.now self.old self.new)
             (λ answer. IsNotStored name.now self.old self.new answer) }
-        ensures files { OnOk result (S.files shelf.new
-            ≡ option_map (with_file name.now job.now.file) (S.files shelf.old)) }
-        ensures same { OnErr result (S.files shelf.new ≡ S.files shelf.old) }
+        ensures files { OnOk result ((S.state shelf.new).files
+            ≡ option_map (with_file name.now job.now.file) (S.state shelf.old).files) }
+        ensures same { OnErr result ((S.state shelf.new).files ≡ (S.state shelf.old).files) }
         ensures rows { AreRowsLeft self.old self.new }
-        ensures listed { IsListed (S.files shelf.old) self.old
-            → IsListed (S.files shelf.new) self.new }
+        ensures listed { IsListed (S.state shelf.old).files self.old
+            → IsListed (S.state shelf.new).files self.new }
         ensures shelf { Counts (is_shelfs_fault result ≡ true)
-            (S.faults shelf.old) (S.faults shelf.new) }
+            (S.state shelf.old).faults (S.state shelf.new).faults }
         ensures keeper { is_keepers_fault result ≡ false }
     {
         if let Err(refusal) = self.may_drop(name) {
@@ -226,7 +226,7 @@ impl House {
             (Start (next_print_number (known_of self.old)) ∷ [])
             (known_of self.old)) name.now) result self.old self.new }
         ensures plain { is_fault result ≡ false }
-        ensures rest { KeeperDone K.tables K.faults keeper.old keeper.new
+        ensures rest { KeeperDone (K.state keeper.old) (K.state keeper.new)
             result self.old self.new }
     {
         let row = self.tables.next_row(user, name, commands);

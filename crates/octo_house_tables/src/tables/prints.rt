@@ -74,9 +74,9 @@ impl HostTables {
         requires { ended ≢ None → self.old.unwritten ≡ None }
         ensures ok { OnOk result (self.new ≡ with_begun ended row taken self.old) }
         ensures err { OnErr result (self.new ≡ self.old) }
-        ensures kept { KeepsRows (K.tables keeper.old) (K.tables keeper.new) self.old self.new }
+        ensures kept { KeepsRows (K.state keeper.old).tables (K.state keeper.new).tables self.old self.new }
         ensures keeper { Counts (is_failed result ≡ true)
-            (K.faults keeper.old) (K.faults keeper.new) }
+            (K.state keeper.old).faults (K.state keeper.new).faults }
     {
         let Ok(()) = reserve_print(&mut self.prints) else {
             return Err(KeeperFault::NoMemory);
@@ -130,9 +130,9 @@ impl HostTables {
         } }
         ensures due { (due_of self.new ≡ None)
             ⊎ (due_of self.new ≡ option_or ended (due_of self.old)) }
-        ensures kept { KeepsRows (K.tables keeper.old) (K.tables keeper.new) self.old self.new }
+        ensures kept { KeepsRows (K.state keeper.old).tables (K.state keeper.new).tables self.old self.new }
         ensures keeper { Counts (is_unwritten_by_fault self.new.unwritten ≡ true)
-            (K.faults keeper.old) (K.faults keeper.new) }
+            (K.state keeper.old).faults (K.state keeper.new).faults }
     {
         let Some(ending) = ended else {
             self.write_end(keeper);
@@ -146,9 +146,9 @@ impl HostTables {
     fn write_end<K: Keeper>(&mut self, keeper: &mut K)
         ensures rest { self.new ≡ record self.old { unwritten = self.new.unwritten } }
         ensures due { (due_of self.new ≡ None) ⊎ (due_of self.new ≡ due_of self.old) }
-        ensures kept { KeepsRows (K.tables keeper.old) (K.tables keeper.new) self.old self.new }
+        ensures kept { KeepsRows (K.state keeper.old).tables (K.state keeper.new).tables self.old self.new }
         ensures keeper { Counts (is_unwritten_by_fault self.new.unwritten ≡ true)
-            (K.faults keeper.old) (K.faults keeper.new) }
+            (K.state keeper.old).faults (K.state keeper.new).faults }
     {
         let Some(ending) = self.due() else {
             return;

@@ -32,7 +32,7 @@ impl HostTables {
             asked.now.priority asked.now.copies asked.now.material }
         ensures done { (k : Known) → IsDone (put_by (put_answer self.old.queue asked.now)
             (over k self.old)) result (over k self.old) (over k self.new) }
-        ensures rest { TablesDone K.tables K.faults keeper.old keeper.new
+        ensures rest { TablesDone (K.state keeper.old) (K.state keeper.new)
             result self.old self.new }
     {
         let put = match self.queue.put(
@@ -58,14 +58,14 @@ impl HostTables {
     fn write_entry<K: Keeper>(&mut self, keeper: &mut K, entry: QueueEntry) -> Answer
         ensures answer { (result ≡ answer.NoMemory)
             ⊎ ((result ≡ answer.OneEntry (shown_entry entry)) ⊎ (result ≡ answer.KeeperFault)) }
-        ensures ok { is_fault result ≡ false → (self.new ≡ self.old) × (K.tables keeper.new
-            ≡ option_map (changed (change.PutEntry entry)) (K.tables keeper.old)) }
-        ensures err { is_fault result ≡ true → (K.tables keeper.new ≡ K.tables keeper.old)
+        ensures ok { is_fault result ≡ false → (self.new ≡ self.old) × ((K.state keeper.new).tables
+            ≡ option_map (changed (change.PutEntry entry)) (K.state keeper.old).tables) }
+        ensures err { is_fault result ≡ true → ((K.state keeper.new).tables ≡ (K.state keeper.old).tables)
             × (self.new ≡ record self.old {
               queue = without entry.user entry.name self.old.queue;
             }) }
         ensures keeper { Counts (is_keepers result ≡ true)
-            (K.faults keeper.old) (K.faults keeper.new) }
+            (K.state keeper.old).faults (K.state keeper.new).faults }
         ensures shelf { is_shelfs result ≡ false }
     {
         match keeper.commit(self.alloc, &Change::PutEntry(entry.copy())) {
@@ -84,7 +84,7 @@ impl HostTables {
         ensures done { (k : Known)
             → IsDone (drop_verdict user.now name.now (over k self.old)) result
             (over k self.old) (over k self.new) }
-        ensures rest { TablesDone K.tables K.faults keeper.old keeper.new
+        ensures rest { TablesDone (K.state keeper.old) (K.state keeper.new)
             result self.old self.new }
     {
         if !has_entry(self.queue.entries(), user, name) {

@@ -31,7 +31,7 @@ impl HostTables {
         ensures done { (k : Known) → k.policy ≡ policy.now → IsDone
             (put_user_verdict (new_user name.now key.now groups.now active) (over k self.old))
             result (over k self.old) (over k self.new) }
-        ensures rest { TablesDone K.tables K.faults keeper.old keeper.new
+        ensures rest { TablesDone (K.state keeper.old) (K.state keeper.new)
             result self.old self.new }
     {
         self.put_user_row(keeper, policy, &new_user(name, key, groups, active))
@@ -42,7 +42,7 @@ impl HostTables {
         ensures done { (k : Known) → k.policy ≡ policy.now → IsDone
             (put_user_verdict row.now (over k self.old)) result
             (over k self.old) (over k self.new) }
-        ensures rest { TablesDone K.tables K.faults keeper.old keeper.new
+        ensures rest { TablesDone (K.state keeper.old) (K.state keeper.new)
             result self.old self.new }
     {
         if let Err(refusal) = self.users.put(row, policy) {
@@ -72,7 +72,7 @@ impl HostTables {
         ensures done { (k : Known) → k.policy ≡ policy.now → IsDone
             (change_user_verdict name.now key.now groups.now active (over k self.old))
             result (over k self.old) (over k self.new) }
-        ensures rest { TablesDone K.tables K.faults keeper.old keeper.new
+        ensures rest { TablesDone (K.state keeper.old) (K.state keeper.new)
             result self.old self.new }
     {
         let Some(former) = user_named(self.users.rows(), name) else {
@@ -87,7 +87,7 @@ impl HostTables {
         requires { IsUserTable self.old.users }
         ensures done { (k : Known) → k.policy ≡ policy.now → IsDone
             (replace_verdict row.now (over k self.old)) result (over k self.old) (over k self.new) }
-        ensures rest { TablesDone K.tables K.faults keeper.old keeper.new
+        ensures rest { TablesDone (K.state keeper.old) (K.state keeper.new)
             result self.old self.new }
     {
         let former = match self.users.change(row, policy) {

@@ -25,30 +25,30 @@ use printer_link::{Link, LinkFault};
 
 // Dials the port of the desk.
 fn dial_port<L: Link>(desk: &Desk, link: &mut L) -> Result<(), LinkFault>
-    requires { L.up link.old ≡ false }
+    requires { (L.state link.old).up ≡ false }
 
     // What the history says of it.
-    ensures past { OnOk result (Grows (L.kind link.old) (L.past link.old) (L.past link.new)
+    ensures past { OnOk result (Grows (L.state link.old).kind (L.state link.old).past (L.state link.new).past
         IsDial) }
     ensures past_no_port { IsErrOf result fault.NoPort
-        → Grows (L.kind link.old) (L.past link.old) (L.past link.new) IsNothing }
-    ensures past_prompt { (L.kind link.old).prompt ≡ true
-        → OnOk result (Grows (L.kind link.old) (L.past link.old) (L.past link.new)
+        → Grows (L.state link.old).kind (L.state link.old).past (L.state link.new).past IsNothing }
+    ensures past_prompt { (L.state link.old).kind.prompt ≡ true
+        → OnOk result (Grows (L.state link.old).kind (L.state link.old).past (L.state link.new).past
         (λ w added. (last : ℕ) × (added ≡ dial_events w last))) }
     ensures past_failed { IsErrOf result fault.Failed
-        → Grows (L.kind link.old) (L.past link.old) (L.past link.new) IsRuns }
+        → Grows (L.state link.old).kind (L.state link.old).past (L.state link.new).past IsRuns }
 
     // Whether the port is listed, that the call counts, and whether the link is up.
     ensures no_port { IsErrOf result fault.NoPort
-        ↔ ((L.kind link.old).listed (port_of desk.now) ≡ false) }
-    ensures calls { L.calls link.new ≡ counted_one (L.calls link.old) }
-    ensures up { OnOk result (L.up link.new ≡ true) }
-    ensures down { OnErr result (L.up link.new ≡ false) }
+        ↔ ((L.state link.old).kind.listed (port_of desk.now) ≡ false) }
+    ensures calls { (L.state link.new).calls ≡ counted_one (L.state link.old).calls }
+    ensures up { OnOk result ((L.state link.new).up ≡ true) }
+    ensures down { OnErr result ((L.state link.new).up ≡ false) }
 
     // What stays, and the faults.
-    ensures slots { HasSlots (L.kind link.old) }
-    ensures kind { L.kind link.new ≡ L.kind link.old }
-    ensures counts { Counts (IsErrOf result fault.Failed) (L.faults link.old) (L.faults link.new) }
+    ensures slots { HasSlots (L.state link.old).kind }
+    ensures kind { (L.state link.new).kind ≡ (L.state link.old).kind }
+    ensures counts { Counts (IsErrOf result fault.Failed) (L.state link.old).faults (L.state link.new).faults }
 {
     match desk.port() {
         Some(port) => link.dial(port.as_str()),
@@ -100,7 +100,7 @@ impl Session {
     // Dials, and opens the session if the link is made.
     fn dial<L: Link>(&mut self, link: &mut L, moment: u64) -> Found
         requires shut { self.old.up ≡ false }
-        requires down { L.up link.old ≡ false }
+        requires down { (L.state link.old).up ≡ false }
 
         // What it found, which the desk noted.
         ensures finds { can_find now_doing.Dialling result.fact ≡ true }
@@ -112,18 +112,18 @@ impl Session {
         // The session and the link after it, and whether the port is listed.
         ensures joined { IsSession self.new }
         ensures up { self.new.up ≡ up_after result.fact false }
-        ensures link { L.up link.new ≡ self.new.up }
+        ensures link { (L.state link.new).up ≡ self.new.up }
         ensures no_port { (result.fact ≡ fact.NoPort)
-            ↔ ((L.kind link.old).listed (port_of self.old.desk) ≡ false) }
+            ↔ ((L.state link.old).kind.listed (port_of self.old.desk) ≡ false) }
         ensures ready { self.new.sender.ready ≡ true → self.old.sender.ready ≡ true }
 
         // The steps that it took, and what stays of the link.
-        ensures steps { Takes moment (L.kind link.old) (L.past link.old) (L.past link.new)
-            (L.calls link.old) (L.calls link.new) (dial_steps result.fact) self.old.sender
+        ensures steps { Takes moment (L.state link.old).kind (L.state link.old).past (L.state link.new).past
+            (L.state link.old).calls (L.state link.new).calls (dial_steps result.fact) self.old.sender
             self.new.sender }
-        ensures kind { L.kind link.new ≡ L.kind link.old }
+        ensures kind { (L.state link.new).kind ≡ (L.state link.old).kind }
         ensures counts { Counts (result.fact ≡ fact.Failed)
-            (L.faults link.old) (L.faults link.new) }
+            (L.state link.old).faults (L.state link.new).faults }
     {
         match dial_port(&self.desk, link) {
             Ok(()) => self.open(moment),
@@ -142,7 +142,7 @@ impl Session {
 
     // Hangs up, if the link is up.
     fn hang_up<L: Link>(&mut self, link: &mut L, moment: u64) -> Found
-        requires { L.up link.old ≡ self.old.up }
+        requires { (L.state link.old).up ≡ self.old.up }
 
         // What it found, which the desk noted.
         ensures finds { result.fact ≡ fact.Closed }
@@ -154,15 +154,15 @@ impl Session {
         // The session and the link after it.
         ensures joined { IsSession self.new }
         ensures up { self.new.up ≡ false }
-        ensures link { L.up link.new ≡ false }
+        ensures link { (L.state link.new).up ≡ false }
         ensures sender { self.new.sender ≡ self.old.sender }
 
         // The steps that it took, and what stays of the link.
-        ensures steps { Takes moment (L.kind link.old) (L.past link.old) (L.past link.new)
-            (L.calls link.old) (L.calls link.new) (hangs_up self.old.up ∷ []) self.old.sender
+        ensures steps { Takes moment (L.state link.old).kind (L.state link.old).past (L.state link.new).past
+            (L.state link.old).calls (L.state link.new).calls (hangs_up self.old.up ∷ []) self.old.sender
             self.new.sender }
-        ensures kind { L.kind link.new ≡ L.kind link.old }
-        ensures counted { L.faults link.old ≤ L.faults link.new }
+        ensures kind { (L.state link.new).kind ≡ (L.state link.old).kind }
+        ensures counted { (L.state link.old).faults ≤ (L.state link.new).faults }
     {
         link.hang_up();
         self.up = false;
@@ -176,7 +176,7 @@ impl Session {
     fn turn_while_up<L: Link>(&mut self, link: &mut L, moment: u64, line: &mut ReplyLine) -> Found
         requires open { self.old.up ≡ true }
         requires early { NoneEarly self.old.sender }
-        requires up { L.up link.old ≡ true }
+        requires up { (L.state link.old).up ≡ true }
 
         // What it found, which the desk noted.
         ensures finds { can_find now_doing.UsingLink result.fact ≡ true }
@@ -191,16 +191,16 @@ impl Session {
             → IsSpent moment self.old.desk self.new.desk self.new.sender }
         ensures joined { IsSession self.new }
         ensures up { self.new.up ≡ up_after result.fact true }
-        ensures link { L.up link.new ≡ self.new.up }
+        ensures link { (L.state link.new).up ≡ self.new.up }
 
         // The steps that it took, and what stays of the link.
-        ensures steps { TakesSome moment (L.kind link.old) (L.past link.old) (L.past link.new)
-            (L.calls link.old) (L.calls link.new)
+        ensures steps { TakesSome moment (L.state link.old).kind (L.state link.old).past (L.state link.new).past
+            (L.state link.old).calls (L.state link.new).calls
             (steps_over_link (got_of result.received line.new.items) result.fact
             (texts_in (map line_of result.issued.items))) self.old.sender self.new.sender }
-        ensures kind { L.kind link.new ≡ L.kind link.old }
+        ensures kind { (L.state link.new).kind ≡ (L.state link.old).kind }
         ensures counts { Counts (result.fact ≡ fact.Failed)
-            (L.faults link.old) (L.faults link.new) }
+            (L.state link.old).faults (L.state link.new).faults }
     {
         let found = receive_then_send(&mut self.desk, &mut self.sender, link, moment, line);
         self.up = matches!(found.fact, LinkFact::Quiet | LinkFact::Ready);
@@ -214,7 +214,7 @@ impl Session {
         moment: u64,
         line: &mut ReplyLine,
     ) -> Found
-        requires { L.up link.old ≡ self.old.up }
+        requires { (L.state link.old).up ≡ self.old.up }
 
         // What it found, which the desk noted.
         ensures finds { can_find (doing self.old) result.fact ≡ true }
@@ -230,24 +230,24 @@ impl Session {
             → IsSpent moment self.old.desk self.new.desk self.new.sender }
         ensures joined { IsSession self.new }
         ensures up { self.new.up ≡ up_after result.fact self.old.up }
-        ensures link { L.up link.new ≡ self.new.up }
+        ensures link { (L.state link.new).up ≡ self.new.up }
         ensures greatest { self.new.desk.greatest ≡ self.old.desk.greatest }
         ensures active { IsActive self.old.desk }
         ensures no_port { (result.fact ≡ fact.NoPort)
             ↔ ((doing self.old ≡ now_doing.Dialling)
-            × ((L.kind link.old).listed (port_of self.old.desk) ≡ false)) }
+            × ((L.state link.old).kind.listed (port_of self.old.desk) ≡ false)) }
 
         // The steps that it took, and what stays of the link.
-        ensures steps { TakesSome moment (L.kind link.old) (L.past link.old) (L.past link.new)
-            (L.calls link.old) (L.calls link.new)
+        ensures steps { TakesSome moment (L.state link.old).kind (L.state link.old).past (L.state link.new).past
+            (L.state link.old).calls (L.state link.new).calls
             (turn_steps (doing self.old) self.old.up (got_of result.received line.new.items)
             result.fact (texts_in (map line_of result.issued.items))) self.old.sender
             self.new.sender }
-        ensures kind { L.kind link.new ≡ L.kind link.old }
+        ensures kind { (L.state link.new).kind ≡ (L.state link.old).kind }
         ensures counts { Counts (result.fact ≡ fact.Failed)
-            (L.faults link.old) (L.faults link.new) }
+            (L.state link.old).faults (L.state link.new).faults }
         ensures calls { is_calling (doing self.old) ≡ true
-            → RoseBy 1 (L.calls link.old) (L.calls link.new) }
+            → RoseBy 1 (L.state link.old).calls (L.state link.new).calls }
     {
         match self.doing() {
             Doing::Dialling => self.dial(link, moment),

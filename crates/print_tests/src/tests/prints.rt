@@ -64,8 +64,8 @@ fn print_over<L: Link>(
     asked: &Asked,
 ) -> Result<PrintEnd, Fail>
     requires new { IsNew session.old }
-    requires down { L.up link.old ≡ false }
-    requires suits { SuitsAs session.old.sender.numbered (L.past link.old) (L.kind link.old).oks }
+    requires down { (L.state link.old).up ≡ false }
+    requires suits { SuitsAs session.old.sender.numbered (L.state link.old).past (L.state link.old).kind.oks }
 {
     let port = Name::of("p")?;
     let name = Name::of("a.gcode")?;

@@ -33,13 +33,12 @@ impl SlowCounter {
 impl Counter for SlowCounter {
     ghost use Rattle.octo_asks.specs.Place.{no_place};
 
-    ghost place = { λ _. no_place };
-
-    ghost past = { λ c. c.counter.past };
-
-    ghost given = { λ c. c.counter.given };
-
-    ghost closed = { λ c. c.counter.closed };
+    ghost state = { λ c. record {
+      place = no_place;
+      past = c.counter.past;
+      given = c.counter.given;
+      closed = c.counter.closed;
+    } };
 
     fn next(&mut self) -> Next {
         if self.left > 0 {

@@ -59,13 +59,12 @@ impl<R: Drop> GateConn<R> {
 }
 
 impl<R: Clock + Drop> Conn for GateConn<R> {
-    ghost left = { λ _. None };
-
-    ghost written = { λ _. None };
-
-    ghost faults = { λ c. c.faults };
-
-    ghost quiets = { λ c. c.quiets };
+    ghost state = { λ c. record {
+      left = None;
+      written = None;
+      faults = c.faults;
+      quiets = c.quiets;
+    } };
 
     fn read(&mut self, into: &mut [u8]) -> Result<Got, Failed> {
         if self.waits() {

@@ -108,13 +108,7 @@ impl<R: Abort + Copy + Drop> GateDoor<R> {
 impl<R: Clock + Copy + Send + Drop> Door for GateDoor<R> {
     type Conn = GateConn<R>;
 
-    ghost coming = { λ _. None };
-
-    ghost served = { λ _. None };
-
-    ghost faults = { λ _. 0 };
-
-    ghost has_failed = { λ _. false };
+    ghost state = { λ _. record { coming = None; served = None; faults = 0; has_failed = false } };
 
     fn accept(&mut self) -> Result<Knock<GateConn<R>>, Failed> {
         match self.coming.take() {

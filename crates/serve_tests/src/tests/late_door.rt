@@ -27,13 +27,12 @@ impl<R: Clock + Copy + Send + Drop> Door for LateDoor<R> {
 
     type Conn = MemoryConn;
 
-    ghost coming = { λ _. None };
-
-    ghost served = { λ _. None };
-
-    ghost faults = { λ d. d.door.faults };
-
-    ghost has_failed = { λ d. d.door.has_failed };
+    ghost state = { λ d. record {
+      coming = None;
+      served = None;
+      faults = d.door.faults;
+      has_failed = d.door.has_failed;
+    } };
 
     fn accept(&mut self) -> Result<Knock<MemoryConn>, Failed> {
         for _ in 0..10_000 {

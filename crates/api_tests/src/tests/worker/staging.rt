@@ -77,11 +77,7 @@ impl Taker {
 }
 
 impl Asker for Taker {
-    ghost place = { λ _. no_place };
-
-    ghost mine = { λ _. None };
-
-    ghost saw_close = { λ _. false };
+    ghost state = { λ _. record { place = no_place; mine = None; saw_close = false } };
 
     fn ask(&mut self, ask: Ask) -> Result<Answer, Closed> {
         let answer = answer_to(&ask.request);

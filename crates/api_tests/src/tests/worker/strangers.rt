@@ -36,11 +36,7 @@ fn guests() -> GroupNames {
 }
 
 impl Asker for Strangers {
-    ghost place = { λ _. no_place };
-
-    ghost mine = { λ _. None };
-
-    ghost saw_close = { λ _. false };
+    ghost state = { λ _. record { place = no_place; mine = None; saw_close = false } };
 
     fn ask(&mut self, ask: Ask) -> Result<Answer, Closed> {
         match &ask.request {

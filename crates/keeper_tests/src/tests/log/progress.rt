@@ -23,9 +23,9 @@ fn new_link(rt: &impl Abort, alloc: Global, showing: Showing) -> TestLink
 
 // Sends a line, and receives its reply.
 fn exchange<L: Link>(rt: &impl Abort, link: &mut L, text: &[u8])
-    requires up { L.up link.old ≡ true }
+    requires up { (L.state link.old).up ≡ true }
     requires short { length text.now ≤ 95 }
-    ensures { L.up link.new ≡ true }
+    ensures { (L.state link.new).up ≡ true }
 {
     assert!(rt; link.send(&bounded_text(text)).is_ok());
     assert!(rt; link.recv(&mut ReplyLine::new()) == Ok(Heard::Line));
@@ -33,7 +33,7 @@ fn exchange<L: Link>(rt: &impl Abort, link: &mut L, text: &[u8])
 
 // The hello and two commands.
 fn print_two<L: Link>(rt: &impl Abort, link: &mut L)
-    requires { L.up link.old ≡ true }
+    requires { (L.state link.old).up ≡ true }
 {
     exchange(rt, link, b"N0 M110 N1*124");
     exchange(rt, link, b"N2 G28*17");

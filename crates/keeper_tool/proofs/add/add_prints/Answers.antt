@@ -13,5 +13,5 @@ returns-in-Ok-add_from-clause-some g c =
       c.args.prints,
       within,
       c.in-Ok-add_from.ensures.ok ∙ ap (λ t. option_map (with_prints first c.args.prints) t) c.in-Ok.ensures.stays
-          ∙ numbered first c.args.prints c.in-Ok.tables (g.K.Keeper.tables c.args.keeper.now) is c.in-Ok.ensures.ok,
+          ∙ numbered first c.args.prints c.in-Ok.tables (g.K.Keeper.state c.args.keeper.now).tables is c.in-Ok.ensures.ok,
     )

@@ -6,11 +6,11 @@ use Rattle.marlin_sim.proofs.serve.drain.Given as goal
 
 abbrev pub invariant-loop : goal.invariant-loop
 invariant-loop g l = record {
-  follows : (plan : SimPlan) (input : List ℕ) (first : Outside) → Serves plan input first (outside (g.C.Conn.left l.initial.conn) (g.C.Conn.written l.initial.conn) (g.O.Sink.written l.initial.out)) l.initial.sim → Serves plan input first (outside (g.C.Conn.left l.conn) (g.C.Conn.written l.conn) (g.O.Sink.written l.out)) l.sim;
-  left : g.C.Conn.left l.conn ≡ g.C.Conn.left l.initial.conn;
-  quiets : g.C.Conn.quiets l.conn ≡ g.C.Conn.quiets l.initial.conn;
+  follows : (plan : SimPlan) (input : List ℕ) (first : Outside) → Serves plan input first (outside (g.C.Conn.state l.initial.conn).left (g.C.Conn.state l.initial.conn).written (g.O.Sink.written l.initial.out)) l.initial.sim → Serves plan input first (outside (g.C.Conn.state l.conn).left (g.C.Conn.state l.conn).written (g.O.Sink.written l.out)) l.sim;
+  left : (g.C.Conn.state l.conn).left ≡ (g.C.Conn.state l.initial.conn).left;
+  quiets : (g.C.Conn.state l.conn).quiets ≡ (g.C.Conn.state l.initial.conn).quiets;
   slots : l.sim.printer.slots ≡ l.initial.sim.printer.slots;
-  conn_counted : g.C.Conn.faults l.initial.conn ≤ g.C.Conn.faults l.conn;
+  conn_counted : (g.C.Conn.state l.initial.conn).faults ≤ (g.C.Conn.state l.conn).faults;
   sink_counted : g.O.Sink.faults l.initial.out ≤ g.O.Sink.faults l.out;
 }
 

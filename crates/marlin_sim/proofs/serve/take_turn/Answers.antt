@@ -11,7 +11,7 @@ returns-in-Ok-Bytes-clause-follows g c input first going =
     let v = going.serves in
     let n = c.in-Ok-Bytes.n in
     let ok = rw c.in-Ok-Bytes.field-0-is at c.in-Ok-Bytes.ensures.ok in
-    let Read : Option (List ℕ) → Type 0 = λ o. IfSome o (λ before. Receives before (got.Bytes n) c.read.new.into (g.C.Conn.left c.read.new.self)) in
+    let Read : Option (List ℕ) → Type 0 = λ o. IfSome o (λ before. Receives before (got.Bytes n) c.read.new.into (g.C.Conn.state c.read.new.self).left) in
     let read = subst Read v.left ok in
     let Wrote : Option (List ℕ) → Type 0 = λ o. Adds first.wrote o v.wrote in
     c.receive.ensures.follows input (drop n v.rest) v.wrote v.printed first (subst Wrote (sym c.read.ensures.written) v.wrote_is) v.printed_is read.rest

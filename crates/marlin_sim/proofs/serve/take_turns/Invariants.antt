@@ -5,10 +5,10 @@ use Rattle.marlin_sim.proofs.serve.take_turns.Given as goal
 
 abbrev pub invariant-loop : goal.invariant-loop
 invariant-loop g l = record {
-  follows : (input : List ℕ) (first : Outside) → Going l.plan input first (outside (g.C.Conn.left l.initial.conn) (g.C.Conn.written l.initial.conn) (g.O.Sink.written l.initial.out)) l.initial.sim → Going l.plan input first (outside (g.C.Conn.left l.conn) (g.C.Conn.written l.conn) (g.O.Sink.written l.out)) l.sim;
-  used : IfSome (g.C.Conn.left l.initial.conn) (λ before. IsUsed l.counter before (g.C.Conn.left l.conn) (g.C.Conn.quiets l.initial.conn) (g.C.Conn.quiets l.conn));
+  follows : (input : List ℕ) (first : Outside) → Going l.plan input first (outside (g.C.Conn.state l.initial.conn).left (g.C.Conn.state l.initial.conn).written (g.O.Sink.written l.initial.out)) l.initial.sim → Going l.plan input first (outside (g.C.Conn.state l.conn).left (g.C.Conn.state l.conn).written (g.O.Sink.written l.out)) l.sim;
+  used : IfSome (g.C.Conn.state l.initial.conn).left (λ before. IsUsed l.counter before (g.C.Conn.state l.conn).left (g.C.Conn.state l.initial.conn).quiets (g.C.Conn.state l.conn).quiets);
   slots : l.sim.printer.slots ≡ l.plan.slots;
-  quiets_counted : g.C.Conn.quiets l.initial.conn ≤ g.C.Conn.quiets l.conn;
-  conn_counted : g.C.Conn.faults l.initial.conn ≤ g.C.Conn.faults l.conn;
+  quiets_counted : (g.C.Conn.state l.initial.conn).quiets ≤ (g.C.Conn.state l.conn).quiets;
+  conn_counted : (g.C.Conn.state l.initial.conn).faults ≤ (g.C.Conn.state l.conn).faults;
   sink_counted : g.O.Sink.faults l.initial.out ≤ g.O.Sink.faults l.out;
 }

@@ -8,7 +8,7 @@ use Rattle.octo_api_worker.proofs.admit.turn_away.Goals as goal
 pub returns-in-Ok-None-clause-known : goal.returns-in-Ok-None-clause-known
 returns-in-Ok-None-clause-known g c =
     let First : Option Ask → Type 0 = λ first. IsFirstAsk c.args.head.now first in
-    ([], no_key (subst First c.in-Ok-None.field-0-is c.in-Ok-None.ensures), adds_none (g.A.Asker.mine c.args.asker.now))
+    ([], no_key (subst First c.in-Ok-None.field-0-is c.in-Ok-None.ensures), adds_none (g.A.Asker.state c.args.asker.now).mine)
 
 pub returns-in-Ok-Some-clause-known : goal.returns-in-Ok-Some-clause-known
 returns-in-Ok-Some-clause-known g c =
@@ -26,5 +26,5 @@ pub returns-in-Err-clause-turned : goal.returns-in-Err-clause-turned
 returns-in-Err-clause-turned g c = (
   [],
   by_memory c.reply_with.result (c.reply_with.ensures c.args.origins.now c.args.head.now c.listed-origin.ensures),
-  adds_none (g.A.Asker.mine c.args.asker.now),
+  adds_none (g.A.Asker.state c.args.asker.now).mine,
 )

@@ -8,7 +8,7 @@ use Rattle.octo_api_worker.proofs.reply.reply_to_request.Goals as goal
 pub returns-in-Err-clause-replied : goal.returns-in-Err-clause-replied
 returns-in-Err-clause-replied g c of_api = (
   [],
-  adds_none (g.A.Asker.mine c.args.asker.now),
+  adds_none (g.A.Asker.state c.args.asker.now).mine,
   refused direct.NoMemory c.out_of_memory.result c.origin_lines.result of_api (inl refl) (inl c.out_of_memory.ensures)
       (c.origin_lines.ensures ∙ ap origin_lines c.listed-origin.ensures),
 )

@@ -7,7 +7,7 @@ use Rattle.octo_api_worker.proofs.reply.reply_to_shown.Goals as goal
 pub returns-in-Err-clause-replied : goal.returns-in-Err-clause-replied
 returns-in-Err-clause-replied g c origins is from of_api = (
   [],
-  adds_none (g.A.Asker.mine c.args.asker.now),
+  adds_none (g.A.Asker.state c.args.asker.now).mine,
   refused c.in-Err.direct c.direct_bytes.result c.direct_lines.result of_api c.in-Err.ensures.says c.direct_bytes.ensures
       (c.direct_lines.ensures ∙ ap (direct_lines c.in-Err.direct) from),
 )

@@ -1,5 +1,4 @@
 use Rattle.std.proofs.Common.{◌++◌}
-use Rattle.octo_outside_doors.specs.Doors.{state_of}
 use Rattle.octo_outside.proofs.Recorded.{adds_then}
 use Rattle.octo_api_worker.proofs.Asked.{once_then, once_turned}
 use Rattle.octo_api_worker.proofs.Writing.{turned}
@@ -7,7 +6,7 @@ use Rattle.octo_api_worker.proofs.serve.serve_begun.Goals as goal
 
 pub returns-in-Some-clause-served : goal.returns-in-Some-clause-served
 returns-in-Some-clause-served g c input begun =
-    let state = state_of g.C.Conn.left g.C.Conn.written g.C.Conn.faults g.C.Conn.quiets in
+    let state = g.C.Conn.state in
     let away = c.in-Some.ensures.turned in (
       away.0,
       away.2,

@@ -1,6 +1,5 @@
 use Rattle.std.proofs.Common.{[], ap}
 use Rattle.std.specs.Prelude.{Err}
-use Rattle.octo_outside_doors.specs.Doors.{state_of}
 use Rattle.octo_outside.proofs.Recorded.{adds_none}
 use Rattle.octo_api_worker.specs.Served.{no_call}
 use Rattle.octo_api_worker.proofs.Asked.{leads_to}
@@ -9,7 +8,7 @@ use Rattle.octo_api_worker.proofs.serve.serve_rest.Goals as goal
 
 pub returns-in-Ok-clause-served : goal.returns-in-Ok-clause-served
 returns-in-Ok-clause-served g c input first begun admits =
-    let state = state_of g.C.Conn.left g.C.Conn.written g.C.Conn.faults g.C.Conn.quiets in
+    let state = g.C.Conn.state in
     let replied = c.reply_to_message-replied.ensures.replied in (
       replied.0,
       replied.1,
@@ -21,9 +20,9 @@ returns-in-Ok-clause-served g c input first begun admits =
 
 pub returns-in-Err-clause-served : goal.returns-in-Err-clause-served
 returns-in-Err-clause-served g c input first begun admits =
-    let state = state_of g.C.Conn.left g.C.Conn.written g.C.Conn.faults g.C.Conn.quiets in (
+    let state = g.C.Conn.state in (
       [],
-      adds_none (g.A.Asker.mine c.args.asker.now),
+      adds_none (g.A.Asker.state c.args.asker.now).mine,
       unread c.args.terms.now input (state c.args.conn.now) (state c.read_rest.new.conn) (state c.refuse.new.conn) c.args.begun first c.in-Err.fault
           c.refuse.ensures.written.0 begun admits (c.in-Err.ensures.answer input begun.begins) (c.in-Err.ensures.patient 0 begun.waited)
           (λ is. c.in-Err.ensures.counts.rose (ap Err is)) c.in-Err.ensures.counts.later c.refuse.ensures.written.1 c.refuse.ensures.written.2
@@ -34,4 +33,4 @@ pub returns-in-Ok-clause-once : goal.returns-in-Ok-clause-once
 returns-in-Ok-clause-once g c = let replied = c.reply_to_message-replied.ensures.replied in (replied.0, leads_to _ _ _ _ _ replied.2, replied.1)
 
 pub returns-in-Err-clause-once : goal.returns-in-Err-clause-once
-returns-in-Err-clause-once g c = ([], no_call, adds_none (g.A.Asker.mine c.args.asker.now))
+returns-in-Err-clause-once g c = ([], no_call, adds_none (g.A.Asker.state c.args.asker.now).mine)

@@ -7,8 +7,8 @@ use Rattle.octo_commands.proofs.carrying.carry_out.Goals as goal
 
 pub returns-in-Check-clause-reports : goal.returns-in-Check-clause-reports
 returns-in-Check-clause-reports g c =
-    let past = g.L.Link.past c.args.link.now in
-    subst (λ command. Reports (g.L.Link.kind c.args.link.now) (g.F.Source.files c.args.files.now) (seen_of past past (g.L.Link.faults c.args.link.now) (g.L.Link.faults c.args.link.now) (g.T.Clock.moment c.args.clock.now)) command c.check.result) (sym c.in-Check.is) (c.check.ensures.check, refl)
+    let past = (g.L.Link.state c.args.link.now).past in
+    subst (λ command. Reports (g.L.Link.state c.args.link.now).kind (g.F.Source.files c.args.files.now) (seen_of past past (g.L.Link.state c.args.link.now).faults (g.L.Link.state c.args.link.now).faults (g.T.Clock.moment c.args.clock.now)) command c.check.result) (sym c.in-Check.is) (c.check.ensures.check, refl)
 
 pub returns-in-Print-clause-recorded : goal.returns-in-Print-clause-recorded
 returns-in-Print-clause-recorded g c = print_recorded _ _ _ _ _ _ _ _ c.print_file.ensures.print

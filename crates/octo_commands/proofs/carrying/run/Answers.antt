@@ -1,7 +1,6 @@
 use Rattle.std.proofs.Common.{◌≡◌, refl, sym, ap, true, false}
 use Rattle.octo_serve_command.specs.declared.hosting.HostEnd.{HostEnd}
 use Rattle.octo_files.specs.declared.report.Report.TheVariants as report
-use Rattle.octo_serve.specs.Around.{link_state}
 use Rattle.octo_commands.specs.Commands.{carried_out, hosted}
 use Rattle.octo_commands.proofs.Refusals.{other_host}
 use Rattle.octo_commands.proofs.Suited.{host_suits}
@@ -31,7 +30,7 @@ returns-in-None-clause-comes g c words read =
       shelf = refl;
       doors = refl;
       unlinked = λ unused. (
-        ap (link_state g.L.Link.kind g.L.Link.past g.L.Link.calls g.L.Link.up g.L.Link.faults) (c.carry_out-report.ensures.untouched unused).0,
+        ap (g.L.Link.state) (c.carry_out-report.ensures.untouched unused).0,
         ap g.T.Clock.moment (c.carry_out-report.ensures.untouched unused).1,
       );
     })

@@ -2,7 +2,8 @@ use Rattle.std.proofs.Common.{◌≡◌, ◌∙◌, List, ap, refl, false, subst
 use Rattle.std.specs.Prelude.{All}
 use Rattle.printer_link.specs.Suits.{SuitsAs}
 use Rattle.octo_floor_bay.specs.Bay.{BayData, IsBay}
-use Rattle.octo_floor_step.specs.Objects.{LinkState, StoreState, link_state, store_state}
+use Rattle.printer_link.specs.Calls.{LinkState}
+use Rattle.octo_floor_step.specs.Objects.{StoreState, store_state}
 use Rattle.octo_floor.specs.Links.{link_states}
 use Rattle.octo_floor_command.specs.Beginning.{Around, around}
 use Rattle.octo_floor_command.specs.Running.{ran}
@@ -18,19 +19,19 @@ returns-in-Err-clause-runs g c =
     (ap (λ (d : FloorDone). d.floor) c.unrun.ensures)
     (record { links = refl; tables = e.tables; files = e.files; keeper = e.keeper.later; shelf = e.shelf.later })
 
-pub run_watched-end-requires-clause-up : goal.run_watched-end-requires-clause-up
-run_watched-end-requires-clause-up g c lifetimes live =
-    let state : _ → LinkState = link_state g.L.Link.kind g.L.Link.past g.L.Link.calls g.L.Link.up g.L.Link.faults in
-    up_first c.args.settings (g.K.Keeper.tables c.args.keeper.now) c.in-Ok.floor c.in-Ok.ensures.begun (link_states state c.args.links.now)
+pub run-end-requires-clause-up : goal.run-end-requires-clause-up
+run-end-requires-clause-up g c lifetimes live =
+    let state : _ → LinkState = g.L.Link.state in
+    up_first c.args.settings (g.K.Keeper.state c.args.keeper.now).tables c.in-Ok.floor c.in-Ok.ensures.begun (link_states state c.args.links.now)
     (each_state state (λ (l : LinkState). l.up ≡ false) c.args.links.now c.requires.down)
 
 pub returns-clause-runs : goal.returns-clause-runs
 returns-clause-runs g c =
-    let state : _ → LinkState = link_state g.L.Link.kind g.L.Link.past g.L.Link.calls g.L.Link.up g.L.Link.faults in
-    let store : _ → _ → StoreState = store_state g.K.Keeper.tables g.K.Keeper.faults g.S.Shelf.files g.S.Shelf.faults in
+    let state : _ → LinkState = g.L.Link.state in
+    let store : _ → _ → StoreState = λ keeper shelf. store_state (g.K.Keeper.state keeper) (g.S.Shelf.state shelf) in
     let old : Around = around (link_states state c.args.links.now) (store c.args.keeper.now c.args.shelf.now) in
     let between : Around = around (link_states state c.args.links.now) (store c.begin_by.new.keeper c.begin_by.new.shelf) in
-    let r = c.run_watched-end in
+    let r = c.run-end in
     let new : Around = around (link_states state r.new.links) (store r.new.keeper r.new.shelf) in
     let e = c.in-Ok.ensures in
     ran r.result r.new.self (has_run c.args.settings c.args.turns old between new c.in-Ok.floor r.new.self r.result e.begun

@@ -4,7 +4,7 @@ use Rattle.octo_files.specs.declared.report.Report.{Report}
 use Rattle.octo_files.specs.declared.report.Report.TheVariants as report
 use Rattle.octo_settings.specs.Config.{most_config_bytes}
 use Rattle.octo_settings.specs.declared.fault.SettingsFault.TheVariants.{NotToml}
-use Rattle.octo_floor_settings.specs.declared.floor.FloorSettings.{FloorSettings}
+use Rattle.octo_settings.specs.declared.floor.FloorSettings.{FloorSettings}
 use Rattle.octo_floor_command.specs.Settings.{AreFloorSettings}
 use Rattle.octo_floor_command.proofs.Configs.{held_settings, no_settings}
 use Rattle.octo_floor_command.proofs.settings.read_settings_file.Goals as goal

@@ -18,8 +18,8 @@ use Rattle.octo_house_run.proofs.answering.answer_ask.Goals as goal
 
 pub returns-clause-leads : goal.returns-clause-leads
 returns-clause-leads g c before below =
-    let past = g.C.Counter.past c.args.counter.now in
-    let past' = g.C.Counter.past c.answer.new.self in
+    let past = (g.C.Counter.state c.args.counter.now).past in
+    let past' = (g.C.Counter.state c.answer.new.self).past in
     let Adds_by : Option Given → Type 0 = λ given. IfSome given (λ one. Adds past past' (entry.Call c.args.worker one.ask c.args.moment c.ask-answer.result ∷ [])) in
     call_walks (known_of c.args.house.now) (known_of c.ask-answer.new.self) (session_of c.args.house.now) (session_of c.ask-answer.new.self) past past' _ _
     c.args.worker c.args.ask c.args.moment c.ask-answer.result (subst Adds_by c.requires.given c.answer.ensures.past)
@@ -28,8 +28,8 @@ returns-clause-leads g c before below =
 
 pub returns-clause-counted : goal.returns-clause-counted
 returns-clause-counted g c =
-    let past = g.C.Counter.past c.args.counter.now in
-    let past' = g.C.Counter.past c.answer.new.self in
+    let past = (g.C.Counter.state c.args.counter.now).past in
+    let past' = (g.C.Counter.state c.answer.new.self).past in
     let Adds_by : Option Given → Type 0 = λ given. IfSome given (λ one. Adds past past' (entry.Call c.args.worker one.ask c.args.moment c.ask-answer.result ∷ [])) in
     became_so past past' _ _ (subst Adds_by c.requires.given c.answer.ensures.past)
     (λ old added is. subst (λ (h : History). AreOf (Some c.asked_as.result) h) (sym is)
@@ -41,12 +41,12 @@ returns-clause-counted g c =
 
 pub returns-clause-asks : goal.returns-clause-asks
 returns-clause-asks g c =
-    let past = g.C.Counter.past c.args.counter.now in
-    let past' = g.C.Counter.past c.answer.new.self in
-    let keeper = g.K.Keeper.faults c.args.keeper.now in
-    let keeper' = g.K.Keeper.faults c.ask-answer.new.keeper in
-    let shelf = g.S.Shelf.faults c.args.shelf.now in
-    let shelf' = g.S.Shelf.faults c.ask-answer.new.shelf in
+    let past = (g.C.Counter.state c.args.counter.now).past in
+    let past' = (g.C.Counter.state c.answer.new.self).past in
+    let keeper = (g.K.Keeper.state c.args.keeper.now).faults in
+    let keeper' = (g.K.Keeper.state c.ask-answer.new.keeper).faults in
+    let shelf = (g.S.Shelf.state c.args.shelf.now).faults in
+    let shelf' = (g.S.Shelf.state c.ask-answer.new.shelf).faults in
     let Adds_by : Option Given → Type 0 = λ given. IfSome given (λ one. Adds past past' (entry.Call c.args.worker one.ask c.args.moment c.ask-answer.result ∷ [])) in
     became_so past past' _ _ (subst Adds_by c.requires.given c.answer.ensures.past)
     (λ old added is. subst (λ (h : History). AsksAt c.args.moment keeper keeper' shelf shelf' h) (sym is)
@@ -54,16 +54,16 @@ returns-clause-asks g c =
 
 pub returns-clause-own : goal.returns-clause-own
 returns-clause-own g c other =
-    let past = g.C.Counter.past c.args.counter.now in
-    let past' = g.C.Counter.past c.answer.new.self in
+    let past = (g.C.Counter.state c.args.counter.now).past in
+    let past' = (g.C.Counter.state c.answer.new.self).past in
     let Adds_by : Option Given → Type 0 = λ given. IfSome given (λ one. Adds past past' (entry.Call c.args.worker one.ask c.args.moment c.ask-answer.result ∷ [])) in
     became_so past past' _ (λ _ added. own_moments added ≡ []) (subst Adds_by c.requires.given c.answer.ensures.past)
     (λ old added is. ap own_moments is ∙ call_none c.args.worker c.args.ask c.args.moment c.ask-answer.result other)
 
 pub returns-clause-some : goal.returns-clause-some
 returns-clause-some g c =
-    let past = g.C.Counter.past c.args.counter.now in
-    let past' = g.C.Counter.past c.answer.new.self in
+    let past = (g.C.Counter.state c.args.counter.now).past in
+    let past' = (g.C.Counter.state c.answer.new.self).past in
     let known = known_of c.args.house.now in
     let known' = known_of c.ask-answer.new.self in
     let x = c.ask-answer.result in

@@ -16,27 +16,27 @@ use Rattle.octo_house_run.proofs.answering.answer_next.Goals as goal
 
 pub returns-in-Nothing-clause-leads : goal.returns-in-Nothing-clause-leads
 returns-in-Nothing-clause-leads g c =
-    let files = g.S.Shelf.files c.args.shelf.now in
-    subst (λ (h : Option History). Leads h (g.C.Counter.past c.connect_if_due.new.counter) files files c.args.moment c.args.house.now c.connect_if_due.new.house)
+    let files = (g.S.Shelf.state c.args.shelf.now).files in
+    subst (λ (h : Option History). Leads h (g.C.Counter.state c.connect_if_due.new.counter).past files files c.args.moment c.args.house.now c.connect_if_due.new.house)
     c.next.ensures.past (c.connect_if_due.ensures.leads files)
 
 pub returns-in-Nothing-clause-counted : goal.returns-in-Nothing-clause-counted
 returns-in-Nothing-clause-counted g c =
-    subst (λ (h : Option History). Became h (g.C.Counter.past c.connect_if_due.new.counter) (λ _ added. AreOf None added))
+    subst (λ (h : Option History). Became h (g.C.Counter.state c.connect_if_due.new.counter).past (λ _ added. AreOf None added))
     c.next.ensures.past c.connect_if_due.ensures.counted
 
 pub returns-in-Nothing-clause-asks : goal.returns-in-Nothing-clause-asks
 returns-in-Nothing-clause-asks g c =
-    let keeper = g.K.Keeper.faults c.args.keeper.now in
-    let shelf = g.S.Shelf.faults c.args.shelf.now in
-    subst (λ (h : Option History). Became h (g.C.Counter.past c.connect_if_due.new.counter) (λ _ added. AsksAt c.args.moment keeper keeper shelf shelf added))
+    let keeper = (g.K.Keeper.state c.args.keeper.now).faults in
+    let shelf = (g.S.Shelf.state c.args.shelf.now).faults in
+    subst (λ (h : Option History). Became h (g.C.Counter.state c.connect_if_due.new.counter).past (λ _ added. AsksAt c.args.moment keeper keeper shelf shelf added))
     c.next.ensures.past (c.connect_if_due.ensures.asks keeper shelf)
 
 pub returns-in-Nothing-clause-rest : goal.returns-in-Nothing-clause-rest
 returns-in-Nothing-clause-rest g c =
     let alone = c.connect_if_due.ensures.alone in
     record {
-      kept = λ begun is. subst (λ (t : TablesData). IsKept begun (g.K.Keeper.tables c.args.keeper.now) t) (sym alone.tables) is;
+      kept = λ begun is. subst (λ (t : TablesData). IsKept begun (g.K.Keeper.state c.args.keeper.now).tables t) (sym alone.tables) is;
       listed = λ held files at. alone.names ∙ held files at;
       apart = alone.apart;
       keeper = omega arith;
@@ -45,30 +45,30 @@ returns-in-Nothing-clause-rest g c =
 
 pub returns-in-Asked-clause-leads : goal.returns-in-Asked-clause-leads
 returns-in-Asked-clause-leads g c =
-    subst (λ (h : Option History). Leads h (g.C.Counter.past c.answer_ask-asked.new.counter) (g.S.Shelf.files c.args.shelf.now)
-    (g.S.Shelf.files c.answer_ask-asked.new.shelf) c.args.moment c.args.house.now c.answer_ask-asked.new.house)
+    subst (λ (h : Option History). Leads h (g.C.Counter.state c.answer_ask-asked.new.counter).past (g.S.Shelf.state c.args.shelf.now).files
+    (g.S.Shelf.state c.answer_ask-asked.new.shelf).files c.args.moment c.args.house.now c.answer_ask-asked.new.house)
     c.next.ensures.past c.answer_ask-asked.ensures.leads
 
 pub returns-in-Asked-clause-counted : goal.returns-in-Asked-clause-counted
 returns-in-Asked-clause-counted g c =
-    subst (λ (h : Option History). Became h (g.C.Counter.past c.answer_ask-asked.new.counter) (λ _ added. AreOf (Some c.answer_ask-asked.result) added))
+    subst (λ (h : Option History). Became h (g.C.Counter.state c.answer_ask-asked.new.counter).past (λ _ added. AreOf (Some c.answer_ask-asked.result) added))
     c.next.ensures.past c.answer_ask-asked.ensures.counted
 
 pub returns-in-Asked-clause-asks : goal.returns-in-Asked-clause-asks
 returns-in-Asked-clause-asks g c =
-    subst (λ (h : Option History). Became h (g.C.Counter.past c.answer_ask-asked.new.counter) (λ _ added. AsksAt c.args.moment (g.K.Keeper.faults c.args.keeper.now)
-    (g.K.Keeper.faults c.answer_ask-asked.new.keeper) (g.S.Shelf.faults c.args.shelf.now) (g.S.Shelf.faults c.answer_ask-asked.new.shelf) added))
+    subst (λ (h : Option History). Became h (g.C.Counter.state c.answer_ask-asked.new.counter).past (λ _ added. AsksAt c.args.moment (g.K.Keeper.state c.args.keeper.now).faults
+    (g.K.Keeper.state c.answer_ask-asked.new.keeper).faults (g.S.Shelf.state c.args.shelf.now).faults (g.S.Shelf.state c.answer_ask-asked.new.shelf).faults added))
     c.next.ensures.past c.answer_ask-asked.ensures.asks
 
 pub returns-in-Nothing-clause-own : goal.returns-in-Nothing-clause-own
 returns-in-Nothing-clause-own g c workers =
-    subst (λ (h : Option History). Became h (g.C.Counter.past c.connect_if_due.new.counter)
+    subst (λ (h : Option History). Became h (g.C.Counter.state c.connect_if_due.new.counter).past
     (λ _ added. Looks c.args.moment c.args.reconnect.now c.connect_if_due.new.reconnect added)) c.next.ensures.past c.connect_if_due.ensures.own
 
 pub returns-in-Asked-clause-own : goal.returns-in-Asked-clause-own
 returns-in-Asked-clause-own g c workers =
-    let mid = g.C.Counter.past c.next.new.self in
-    let after = g.C.Counter.past c.answer_ask-asked.new.counter in
+    let mid = (g.C.Counter.state c.next.new.self).past in
+    let after = (g.C.Counter.state c.answer_ask-asked.new.counter).past in
     let other : (c.in-Asked.worker == own_number) ≡ false =
     subst (λ (given : Option Given). IfSome given (λ one. (one.worker == own_number) ≡ false)) (c.next.ensures.given ∙ ap ask_given c.in-Asked.is) (workers c.next.new.self) in
     subst (λ (h : Option History). Became h after (λ _ added. Looks c.args.moment c.args.reconnect.now c.see.new.reconnect added)) c.next.ensures.past
@@ -86,7 +86,7 @@ pub returns-in-Nothing-clause-some : goal.returns-in-Nothing-clause-some
 returns-in-Nothing-clause-some g c = (
   [],
   [],
-  subst (λ (h : Option History). Leads h (g.C.Counter.past c.connect_if_due.new.counter) (Some []) (Some []) c.args.moment c.args.house.now c.connect_if_due.new.house)
+  subst (λ (h : Option History). Leads h (g.C.Counter.state c.connect_if_due.new.counter).past (Some []) (Some []) c.args.moment c.args.house.now c.connect_if_due.new.house)
       c.next.ensures.past (c.connect_if_due.ensures.leads (Some [])),
 )
 
@@ -95,7 +95,7 @@ returns-in-Asked-clause-some g c =
     let some = c.answer_ask-asked.ensures.some in (
       some.0,
       some.1,
-      subst (λ (h : Option History). Leads h (g.C.Counter.past c.answer_ask-asked.new.counter) (Some some.0) (Some some.1)
+      subst (λ (h : Option History). Leads h (g.C.Counter.state c.answer_ask-asked.new.counter).past (Some some.0) (Some some.1)
           c.args.moment c.args.house.now c.answer_ask-asked.new.house)
           c.next.ensures.past some.2,
     )

@@ -11,8 +11,8 @@ use Rattle.octo_house_run.proofs.answering.connect.Goals as goal
 
 pub returns-clause-leads : goal.returns-clause-leads
 returns-clause-leads g c files before below =
-    let past = g.C.Counter.past c.args.counter.now in
-    let past' = g.C.Counter.past c.own.new.self in
+    let past = (g.C.Counter.state c.args.counter.now).past in
+    let past' = (g.C.Counter.state c.own.new.self).past in
     let known = known_of c.args.house.now in
     call_walks known (known_of c.connect_itself-answer.new.self) (session_of c.args.house.now) (session_of c.connect_itself-answer.new.self) past past' files files
     own_number own_ask c.args.moment c.connect_itself-answer.result c.own.ensures.past
@@ -21,16 +21,16 @@ returns-clause-leads g c files before below =
 
 pub returns-clause-counted : goal.returns-clause-counted
 returns-clause-counted g c =
-    became_so (g.C.Counter.past c.args.counter.now) (g.C.Counter.past c.own.new.self) _ _ c.own.ensures.past
+    became_so (g.C.Counter.state c.args.counter.now).past (g.C.Counter.state c.own.new.self).past _ _ c.own.ensures.past
     (λ old added is. subst (λ (h : History). AreOf None h) (sym is) (own_counts c.args.moment c.connect_itself-answer.result))
 
 pub returns-clause-asks : goal.returns-clause-asks
 returns-clause-asks g c keeper shelf =
-    became_so (g.C.Counter.past c.args.counter.now) (g.C.Counter.past c.own.new.self) _ _ c.own.ensures.past
+    became_so (g.C.Counter.state c.args.counter.now).past (g.C.Counter.state c.own.new.self).past _ _ c.own.ensures.past
     (λ old added is. subst (λ (h : History). AsksAt c.args.moment keeper keeper shelf shelf h) (sym is)
     (own_asks c.args.moment keeper shelf c.connect_itself-answer.result c.connect_itself-answer.ensures.plain.keeper c.connect_itself-answer.ensures.plain.shelf))
 
 pub returns-clause-own : goal.returns-clause-own
 returns-clause-own g c =
-    became_so (g.C.Counter.past c.args.counter.now) (g.C.Counter.past c.own.new.self) _ (λ _ added. own_moments added ≡ c.args.moment ∷ []) c.own.ensures.past
+    became_so (g.C.Counter.state c.args.counter.now).past (g.C.Counter.state c.own.new.self).past _ (λ _ added. own_moments added ≡ c.args.moment ∷ []) c.own.ensures.past
     (λ old added is. ap own_moments is)

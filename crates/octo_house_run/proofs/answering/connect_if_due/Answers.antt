@@ -18,16 +18,16 @@ returns-then-not-is_due-clause-leads g c files before below =
     later_walks (known_of c.args.house.now) (session_of c.args.house.now) _ _ _ _ c.args.moment refl refl before below
 
 pub returns-then-not-is_due-clause-counted : goal.returns-then-not-is_due-clause-counted
-returns-then-not-is_due-clause-counted g c = became_same (g.C.Counter.past c.args.counter.now) (λ _ added. AreOf None added) (λ past. none_counts)
+returns-then-not-is_due-clause-counted g c = became_same (g.C.Counter.state c.args.counter.now).past (λ _ added. AreOf None added) (λ past. none_counts)
 
 pub returns-then-not-is_due-clause-asks : goal.returns-then-not-is_due-clause-asks
 returns-then-not-is_due-clause-asks g c keeper shelf =
-    became_same (g.C.Counter.past c.args.counter.now) (λ _ added. AsksAt c.args.moment keeper keeper shelf shelf added)
+    became_same (g.C.Counter.state c.args.counter.now).past (λ _ added. AsksAt c.args.moment keeper keeper shelf shelf added)
     (λ past. none_asks c.args.moment keeper shelf)
 
 pub returns-then-not-is_due-clause-own : goal.returns-then-not-is_due-clause-own
 returns-then-not-is_due-clause-own g c =
-    became_same (g.C.Counter.past c.args.counter.now) (λ _ added. Looks c.args.moment c.args.reconnect.now c.see.new.reconnect added)
+    became_same (g.C.Counter.state c.args.counter.now).past (λ _ added. Looks c.args.moment c.args.reconnect.now c.see.new.reconnect added)
     (λ past. record {
       state = (session_of c.args.house.now).desk.state;
       asks = false;
@@ -38,7 +38,7 @@ returns-then-not-is_due-clause-own g c =
 
 pub returns-clause-own : goal.returns-clause-own
 returns-clause-own g c =
-    became_so (g.C.Counter.past c.args.counter.now) (g.C.Counter.past c.connect.new.counter) (λ _ added. own_moments added ≡ c.args.moment ∷ [])
+    became_so (g.C.Counter.state c.args.counter.now).past (g.C.Counter.state c.connect.new.counter).past (λ _ added. own_moments added ≡ c.args.moment ∷ [])
     (λ _ added. Looks c.args.moment c.args.reconnect.now c.after_asking.result added) c.connect.ensures.own
     (λ old added is. record {
       state = (session_of c.args.house.now).desk.state;

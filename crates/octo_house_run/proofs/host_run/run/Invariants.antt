@@ -18,30 +18,30 @@ use Rattle.octo_house_run.proofs.host_run.run.Given as goal
 -- the history has led from the beginning to the host, and the tally is its tally
 abbrev pub invariant-loop : goal.invariant-loop
 invariant-loop g l = record {
-  leads : Walks (g.C.Counter.past l.initial.counter) (g.C.Counter.past l.counter) (g.S.Shelf.files l.initial.shelf) (g.S.Shelf.files l.shelf)
+  leads : Walks (g.C.Counter.state l.initial.counter).past (g.C.Counter.state l.counter).past (g.S.Shelf.state l.initial.shelf).files (g.S.Shelf.state l.shelf).files
       (begins l.initial.house) (stands_with l.house l.moment);
-  contents : WalksOver (g.C.Counter.past l.initial.counter) (g.C.Counter.past l.counter) (OnSome (begins l.initial.house)) (OnSome (stands_with l.house l.moment));
-  counted : Became (g.C.Counter.past l.initial.counter) (g.C.Counter.past l.counter) (λ _ added. tally_of added ≡ l.tally);
-  kept : KeepsRows (g.K.Keeper.tables l.initial.keeper) (g.K.Keeper.tables l.keeper) (tables_of l.initial.house) (tables_of l.house);
-  faults : Became (g.C.Counter.past l.initial.counter) (g.C.Counter.past l.counter) (λ _ added. AreCounted (g.K.Keeper.faults l.initial.keeper) (g.K.Keeper.faults l.keeper)
-      (g.S.Shelf.faults l.initial.shelf) (g.S.Shelf.faults l.shelf) (g.L.Link.faults l.initial.link) (g.L.Link.faults l.link) added);
-  uses : Shows (g.C.Counter.past l.initial.counter) (g.C.Counter.past l.counter) (g.S.Shelf.files l.initial.shelf) (begins l.initial.house)
-      (UsesLink (g.L.Link.kind l.initial.link).listed (g.L.Link.calls l.initial.link) (g.L.Link.calls l.link));
-  temps : Became (g.C.Counter.past l.initial.counter) (g.C.Counter.past l.counter)
-      (λ _ added. NotesTemps (g.L.Link.kind l.initial.link) (g.L.Link.past l.initial.link) (g.L.Link.past l.link) added);
-  moments : Timed (g.T.Clock.moment l.initial.clock) (g.T.Clock.moment l.clock) l.moment (g.C.Counter.past l.initial.counter) (g.C.Counter.past l.counter);
-  listed : IsListed (g.S.Shelf.files l.initial.shelf) l.initial.house → IsListed (g.S.Shelf.files l.shelf) l.house;
-  up : g.L.Link.up l.link ≡ (session_of l.house).up;
-  kind : g.L.Link.kind l.link ≡ g.L.Link.kind l.initial.link;
-  recorded : is_some (g.L.Link.past l.link) ≡ is_some (g.L.Link.past l.initial.link);
-  given : g.C.Counter.given l.counter ≡ None;
-  closed : g.C.Counter.closed l.counter ≡ false;
-  place : g.C.Counter.place l.counter ≡ g.C.Counter.place l.initial.counter;
-  link : g.L.Link.faults l.initial.link ≤ g.L.Link.faults l.link;
-  keeper : g.K.Keeper.faults l.initial.keeper ≤ g.K.Keeper.faults l.keeper;
-  shelf : g.S.Shelf.faults l.initial.shelf ≤ g.S.Shelf.faults l.shelf;
-  steps : InStep (session_of l.initial.house).sender.numbered (g.L.Link.kind l.initial.link) (g.C.Counter.past l.initial.counter) (g.C.Counter.past l.counter) (g.L.Link.past l.initial.link) (g.L.Link.past l.link)
+  contents : WalksOver (g.C.Counter.state l.initial.counter).past (g.C.Counter.state l.counter).past (OnSome (begins l.initial.house)) (OnSome (stands_with l.house l.moment));
+  counted : Became (g.C.Counter.state l.initial.counter).past (g.C.Counter.state l.counter).past (λ _ added. tally_of added ≡ l.tally);
+  kept : KeepsRows (g.K.Keeper.state l.initial.keeper).tables (g.K.Keeper.state l.keeper).tables (tables_of l.initial.house) (tables_of l.house);
+  faults : Became (g.C.Counter.state l.initial.counter).past (g.C.Counter.state l.counter).past (λ _ added. AreCounted (g.K.Keeper.state l.initial.keeper).faults (g.K.Keeper.state l.keeper).faults
+      (g.S.Shelf.state l.initial.shelf).faults (g.S.Shelf.state l.shelf).faults (g.L.Link.state l.initial.link).faults (g.L.Link.state l.link).faults added);
+  uses : Shows (g.C.Counter.state l.initial.counter).past (g.C.Counter.state l.counter).past (g.S.Shelf.state l.initial.shelf).files (begins l.initial.house)
+      (UsesLink (g.L.Link.state l.initial.link).kind.listed (g.L.Link.state l.initial.link).calls (g.L.Link.state l.link).calls);
+  temps : Became (g.C.Counter.state l.initial.counter).past (g.C.Counter.state l.counter).past
+      (λ _ added. NotesTemps (g.L.Link.state l.initial.link).kind (g.L.Link.state l.initial.link).past (g.L.Link.state l.link).past added);
+  moments : Timed (g.T.Clock.moment l.initial.clock) (g.T.Clock.moment l.clock) l.moment (g.C.Counter.state l.initial.counter).past (g.C.Counter.state l.counter).past;
+  listed : IsListed (g.S.Shelf.state l.initial.shelf).files l.initial.house → IsListed (g.S.Shelf.state l.shelf).files l.house;
+  up : (g.L.Link.state l.link).up ≡ (session_of l.house).up;
+  kind : (g.L.Link.state l.link).kind ≡ (g.L.Link.state l.initial.link).kind;
+  recorded : is_some (g.L.Link.state l.link).past ≡ is_some (g.L.Link.state l.initial.link).past;
+  given : (g.C.Counter.state l.counter).given ≡ None;
+  closed : (g.C.Counter.state l.counter).closed ≡ false;
+  place : (g.C.Counter.state l.counter).place ≡ (g.C.Counter.state l.initial.counter).place;
+  link : (g.L.Link.state l.initial.link).faults ≤ (g.L.Link.state l.link).faults;
+  keeper : (g.K.Keeper.state l.initial.keeper).faults ≤ (g.K.Keeper.state l.keeper).faults;
+  shelf : (g.S.Shelf.state l.initial.shelf).faults ≤ (g.S.Shelf.state l.shelf).faults;
+  steps : InStep (session_of l.initial.house).sender.numbered (g.L.Link.state l.initial.link).kind (g.C.Counter.state l.initial.counter).past (g.C.Counter.state l.counter).past (g.L.Link.state l.initial.link).past (g.L.Link.state l.link).past
       (session_of l.house);
-  own : AsksOfWorkers g.C.Counter.given → Became (g.C.Counter.past l.initial.counter) (g.C.Counter.past l.counter)
+  own : AsksOfWorkers (λ x. (g.C.Counter.state x).given) → Became (g.C.Counter.state l.initial.counter).past (g.C.Counter.state l.counter).past
       (λ _ added. Waits l.initial.connects l.reconnect l.moment (own_moments added));
 }

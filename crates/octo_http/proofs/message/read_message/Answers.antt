@@ -20,18 +20,18 @@ returns-in_err-begun-clause-patient g c =
 pub returns-clause-answer : goal.returns-clause-answer
 returns-clause-answer g c input told =
     let From : Option (List ℕ) → Type 0 =
-    λ old. Writes old (g.C.Conn.written c.read_rest.new.conn) (Answers input (g.C.Conn.left c.read_rest.new.conn) c.read_rest.result) in
+    λ old. Writes old (g.C.Conn.state c.read_rest.new.conn).written (Answers input (g.C.Conn.state c.read_rest.new.conn).left c.read_rest.result) in
     subst From c.in_ok-begun.ensures.written (c.read_rest.ensures.answer input (c.in_ok-begun.ensures.begun input told))
 
 pub returns-clause-bounded : goal.returns-clause-bounded
 returns-clause-bounded g c =
-    let From : Option (List ℕ) → Type 0 = λ old. AddsPrefix old (g.C.Conn.written c.read_rest.new.conn) continue_line in
+    let From : Option (List ℕ) → Type 0 = λ old. AddsPrefix old (g.C.Conn.state c.read_rest.new.conn).written continue_line in
     subst From c.in_ok-begun.ensures.written c.read_rest.ensures.bounded
 
 pub returns-clause-patient : goal.returns-clause-patient
 returns-clause-patient g c =
-    let For : ℕ → Type 0 = λ p. IsPatient p (g.C.Conn.quiets c.args.conn.now) (g.C.Conn.quiets c.read_rest.new.conn) c.read_rest.result in
-    subst For c.in_ok-begun.ensures.patience (c.read_rest.ensures.patient (g.C.Conn.quiets c.args.conn.now) c.in_ok-begun.ensures.waited)
+    let For : ℕ → Type 0 = λ p. IsPatient p (g.C.Conn.state c.args.conn.now).quiets (g.C.Conn.state c.read_rest.new.conn).quiets c.read_rest.result in
+    subst For c.in_ok-begun.ensures.patience (c.read_rest.ensures.patient (g.C.Conn.state c.args.conn.now).quiets c.in_ok-begun.ensures.waited)
 
 pub returns-clause-counts : goal.returns-clause-counts
 returns-clause-counts g c = record {

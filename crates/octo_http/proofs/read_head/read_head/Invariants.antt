@@ -5,10 +5,10 @@ use Rattle.octo_http.proofs.read_head.read_head.Given as goal
 
 abbrev pub invariant-reading : goal.invariant-reading
 invariant-reading g l = record {
-  took : Took l.initial.intake.bytes (g.C.Conn.left l.initial.conn) l.intake.bytes (g.C.Conn.left l.conn) [];
-  knows : Knows l.came l.intake [] l.initial.intake.bytes (g.C.Conn.left l.initial.conn) (g.C.Conn.faults l.initial.conn) (g.C.Conn.faults l.conn);
-  waits : Waits l.initial.intake l.intake (g.C.Conn.faults l.initial.conn) (g.C.Conn.faults l.conn) (g.C.Conn.quiets l.initial.conn) (g.C.Conn.quiets l.conn);
-  written : g.C.Conn.written l.conn ≡ g.C.Conn.written l.initial.conn;
+  took : Took l.initial.intake.bytes (g.C.Conn.state l.initial.conn).left l.intake.bytes (g.C.Conn.state l.conn).left [];
+  knows : Knows l.came l.intake [] l.initial.intake.bytes (g.C.Conn.state l.initial.conn).left (g.C.Conn.state l.initial.conn).faults (g.C.Conn.state l.conn).faults;
+  waits : Waits l.initial.intake l.intake (g.C.Conn.state l.initial.conn).faults (g.C.Conn.state l.conn).faults (g.C.Conn.state l.initial.conn).quiets (g.C.Conn.state l.conn).quiets;
+  written : (g.C.Conn.state l.conn).written ≡ (g.C.Conn.state l.initial.conn).written;
 }
 
 abbrev pub decreases-reading : goal.decreases-reading

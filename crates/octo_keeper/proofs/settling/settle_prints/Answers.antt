@@ -8,7 +8,7 @@ pub loop-row-preserved : goal.loop-row-preserved
 loop-row-preserved g c = (
   c.in_ok-settle_print.ensures.ok
       ∙ ap (option_map (settled_by c.row-item.result)) c.loop-row.invariant.0
-      ∙ settled_more (g.K.Keeper.tables c.args.keeper.now) c.in_ok-tables.tables c.as_slice-row-items.result.now c.loop-row.row-index c.row-item.result
+      ∙ settled_more (g.K.Keeper.state c.args.keeper.now).tables c.in_ok-tables.tables c.as_slice-row-items.result.now c.loop-row.row-index c.row-item.result
       c.in_ok-tables.ensures.ok c.in_ok-tables.ensures.sound.numbered c.as_slice-row-items.ensures c.loop-row-test.true c.row-item.is,
   c.in_ok-settle_print.ensures.steady (λ failed. absurd (cc)) ∙ c.loop-row.invariant.1,
 )
@@ -19,5 +19,5 @@ returns-clause-settled g c =
     = let same = ap length c.as_slice-row-items.ensures in let above : length c.as_slice-row-items.result.now ≤ c.loop-row.row-index = c.loop-row-test.false in
     omega arith in
     c.loop-row.invariant.0
-    ∙ ap (λ n. option_map (settled_to n) (g.K.Keeper.tables c.args.keeper.now)) many
-    ∙ settled_all (g.K.Keeper.tables c.args.keeper.now) c.in_ok-tables.tables c.in_ok-tables.ensures.ok
+    ∙ ap (λ n. option_map (settled_to n) (g.K.Keeper.state c.args.keeper.now).tables) many
+    ∙ settled_all (g.K.Keeper.state c.args.keeper.now).tables c.in_ok-tables.tables c.in_ok-tables.ensures.ok

@@ -5,5 +5,5 @@ use Rattle.octo_keeper.proofs.settling.settle_prints.Given as goal
 
 abbrev pub invariant-loop-row : goal.invariant-loop-row
 invariant-loop-row g l =
-    (g.K.Keeper.tables l.keeper ≡ option_map (settled_to l.row-index) (g.K.Keeper.tables l.fn.keeper))
-    × (g.K.Keeper.faults l.keeper ≡ g.K.Keeper.faults l.fn.keeper)
+    ((g.K.Keeper.state l.keeper).tables ≡ option_map (settled_to l.row-index) (g.K.Keeper.state l.fn.keeper).tables)
+    × ((g.K.Keeper.state l.keeper).faults ≡ (g.K.Keeper.state l.fn.keeper).faults)

@@ -13,7 +13,7 @@ loop-done-preserved g c =
     let rest : take (length bytes - done) (drop done bytes) ≡ drop done bytes = take_rest bytes done in
     let front : take (done + n) bytes ≡ take done bytes ++ take n (take (length bytes - done) (drop done bytes)) =
     take-add done n bytes ∙ ap (λ (w : List ℕ). take done bytes ++ take n w) (sym rest) in
-    let Written : List ℕ → Type 0 = λ xs. Adds (g.C.Conn.written c.args.conn.now) (g.C.Conn.written c.write.new.self) xs in
+    let Written : List ℕ → Type 0 = λ xs. Adds (g.C.Conn.state c.args.conn.now).written (g.C.Conn.state c.write.new.self).written xs in
     record {
       within = omega (arith, c.in_ok-done.ensures.ok.1, ap length rest, length-drop done bytes);
       left = c.write.ensures.left ∙ c.loop-done.invariant.left;

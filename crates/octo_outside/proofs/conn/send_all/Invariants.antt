@@ -5,10 +5,10 @@ use Rattle.octo_outside.proofs.conn.send_all.Given as goal
 abbrev pub invariant-loop-done : goal.invariant-loop-done
 invariant-loop-done g l = record {
   within : l.done ≤ length l.bytes;
-  left : g.C.Conn.left l.conn ≡ g.C.Conn.left l.initial.conn;
-  quiets : g.C.Conn.quiets l.conn ≡ g.C.Conn.quiets l.initial.conn;
-  counted : g.C.Conn.faults l.initial.conn ≤ g.C.Conn.faults l.conn;
-  written : Adds (g.C.Conn.written l.initial.conn) (g.C.Conn.written l.conn) (take l.done l.bytes);
+  left : (g.C.Conn.state l.conn).left ≡ (g.C.Conn.state l.initial.conn).left;
+  quiets : (g.C.Conn.state l.conn).quiets ≡ (g.C.Conn.state l.initial.conn).quiets;
+  counted : (g.C.Conn.state l.initial.conn).faults ≤ (g.C.Conn.state l.conn).faults;
+  written : Adds (g.C.Conn.state l.initial.conn).written (g.C.Conn.state l.conn).written (take l.done l.bytes);
 }
 
 abbrev pub decreases-loop-done : goal.decreases-loop-done

@@ -1,5 +1,5 @@
 use Rattle.std.proofs.Common.{◌≡◌, ◌∙◌, ap, refl, arith}
-use Rattle.octo_serve.specs.Around.{link_state, keeper_state, shelf_state, door_state, door_states}
+use Rattle.octo_serve.specs.Around.{door_states}
 use Rattle.octo_serve_command.specs.Hosting.{around}
 use Rattle.octo_serve_command.specs.declared.hosting.HostEnd.{HostEnd}
 use Rattle.octo_house.specs.declared.faults.BeginFault.TheVariants as fault
@@ -25,9 +25,9 @@ returns-in-Ok-serve-clause-serves g c =
     let e = c.in-Ok.ensures in
     let ran = c.in-Ok-serve.served in
     let hosted = hosted_by _ c.args.settings _ _ _ _ _ _ _ e.terms c.in-Ok-serve.ensures.ok in
-    let link_at = link_state g.L.Link.kind g.L.Link.past g.L.Link.calls g.L.Link.up g.L.Link.faults in
-    let doors_at = door_state g.D.Door.coming g.D.Door.served g.D.Door.faults in
-    let at = around link_at g.T.Clock.moment (keeper_state g.K.Keeper.tables g.K.Keeper.faults) (shelf_state g.S.Shelf.files g.S.Shelf.faults) doors_at in
+    let link_at = g.L.Link.state in
+    let doors_at = g.D.Door.state in
+    let at = around link_at g.T.Clock.moment (g.K.Keeper.state) (g.S.Shelf.state) doors_at in
     has_served c.args.settings _ _ _ _ ran.history c.has_served.ensures.history (record {
       first = c.in-Ok.begun.house;
       last = c.serve.new.house;
@@ -64,9 +64,9 @@ returns-in-Ok-serve-clause-causes g c =
     let e = c.in-Ok.ensures in
     let ran = c.in-Ok-serve.served in
     let hosted = hosted_by _ c.args.settings _ _ _ _ _ _ _ e.terms c.in-Ok-serve.ensures.ok in
-    let link_at = link_state g.L.Link.kind g.L.Link.past g.L.Link.calls g.L.Link.up g.L.Link.faults in
-    let doors_at = door_state g.D.Door.coming g.D.Door.served g.D.Door.faults in
-    let at = around link_at g.T.Clock.moment (keeper_state g.K.Keeper.tables g.K.Keeper.faults) (shelf_state g.S.Shelf.files g.S.Shelf.faults) doors_at in
+    let link_at = g.L.Link.state in
+    let doors_at = g.D.Door.state in
+    let at = around link_at g.T.Clock.moment (g.K.Keeper.state) (g.S.Shelf.state) doors_at in
     served_causes c.args.settings _ _ _ ran.history (record {
       first = c.in-Ok.begun.house;
       last = c.serve.new.house;
@@ -103,16 +103,16 @@ returns-clause-serves g c =
     let e = c.in-Ok.ensures in
     let s = c.in-Err-serve.ensures in
     let u = c.unserved-in-Err-serve in
-    let link_at = link_state g.L.Link.kind g.L.Link.past g.L.Link.calls g.L.Link.up g.L.Link.faults in
-    let doors_at = door_state g.D.Door.coming g.D.Door.served g.D.Door.faults in
-    let link_faults : g.L.Link.faults c.serve.new.link ≡ g.L.Link.faults c.args.link.now = ap g.L.Link.faults s.link in
-    let keeper_faults : g.K.Keeper.faults c.serve.new.keeper ≡ g.K.Keeper.faults c.begin_by.new.keeper = ap g.K.Keeper.faults s.keeper in
-    let shelf_faults : g.S.Shelf.faults c.serve.new.shelf ≡ g.S.Shelf.faults c.begin_by.new.shelf = ap g.S.Shelf.faults s.shelf in
+    let link_at = g.L.Link.state in
+    let doors_at = g.D.Door.state in
+    let link_faults : (g.L.Link.state c.serve.new.link).faults ≡ (g.L.Link.state c.args.link.now).faults = ap (g.L.Link.state s.link).faults in
+    let keeper_faults : (g.K.Keeper.state c.serve.new.keeper).faults ≡ (g.K.Keeper.state c.begin_by.new.keeper).faults = ap (g.K.Keeper.state s.keeper).faults in
+    let shelf_faults : (g.S.Shelf.state c.serve.new.shelf).faults ≡ (g.S.Shelf.state c.begin_by.new.shelf).faults = ap (g.S.Shelf.state s.shelf).faults in
     not_served c.args.settings _ _ fault.NoMemory _ _ (ap (λ (h : HostEnd). h.report) u.ensures) (ap (λ (h : HostEnd). h.history) u.ensures) (record {
       link = ap link_at s.link;
       moment = ap g.T.Clock.moment s.clock;
-      tables = ap g.K.Keeper.tables s.keeper ∙ e.tables;
-      files = ap g.S.Shelf.files s.shelf ∙ e.files;
+      tables = ap (g.K.Keeper.state s.keeper).tables ∙ e.tables;
+      files = ap (g.S.Shelf.state s.shelf).files ∙ e.files;
       doors = ap (door_states doors_at) s.doors;
       later = record { link = omega (arith, link_faults); keeper = omega (arith, keeper_faults, e.keeper.later); shelf = omega (arith, shelf_faults, e.shelf.later) };
     })

@@ -38,8 +38,8 @@ returns-in_default g c =
       noted = e.noted;
       spent = e.spent;
       joined = e.joined;
-      steps = let P : Got → Type 0 = λ x. TakesSome c.args.moment (g.L.Link.kind c.args.link.now) (g.L.Link.past c.args.link.now)
-          (g.L.Link.past c.after_receiving.new.link) (g.L.Link.calls c.args.link.now) (g.L.Link.calls c.after_receiving.new.link)
+      steps = let P : Got → Type 0 = λ x. TakesSome c.args.moment (g.L.Link.state c.args.link.now).kind (g.L.Link.state c.args.link.now).past
+          (g.L.Link.state c.after_receiving.new.link).past (g.L.Link.state c.args.link.now).calls (g.L.Link.state c.after_receiving.new.link).calls
           (steps_over_link x c.after_receiving.result.fact (texts_in (map line_of c.after_receiving.result.issued.items))) c.args.sender.now
           c.after_receiving.new.sender in subst P (sym got_same) (takes_talk _ _ _ _ _ _ _ _ _ got c.after_receiving.result.fact
           (texts_in (map line_of c.after_receiving.result.issued.items)) c.args.sender.now c.receive.new.sender c.after_receiving.new.sender is r.kind r.steps

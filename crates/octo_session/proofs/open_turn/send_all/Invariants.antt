@@ -5,11 +5,11 @@ use Rattle.octo_session.proofs.open_turn.send_all.Given as goal
 
 abbrev pub invariant-loop : goal.invariant-loop
 invariant-loop g l = record {
-  steps : TakesSome l.moment (g.L.Link.kind l.initial.link) (g.L.Link.past l.initial.link) (g.L.Link.past l.link) (g.L.Link.calls l.initial.link)
-      (g.L.Link.calls l.link) (sends true) l.initial.sender l.sender;
-  up : g.L.Link.up l.link ≡ true;
-  kind : g.L.Link.kind l.link ≡ g.L.Link.kind l.initial.link;
-  counted : g.L.Link.faults l.initial.link ≤ g.L.Link.faults l.link;
+  steps : TakesSome l.moment (g.L.Link.state l.initial.link).kind (g.L.Link.state l.initial.link).past (g.L.Link.state l.link).past (g.L.Link.state l.initial.link).calls
+      (g.L.Link.state l.link).calls (sends true) l.initial.sender l.sender;
+  up : (g.L.Link.state l.link).up ≡ true;
+  kind : (g.L.Link.state l.link).kind ≡ (g.L.Link.state l.initial.link).kind;
+  counted : (g.L.Link.state l.initial.link).faults ≤ (g.L.Link.state l.link).faults;
 }
 
 abbrev pub decreases-loop : goal.decreases-loop

@@ -34,9 +34,9 @@ returns-clause-goes g c p port first limit patient suits way =
     let turned = c.turn-turned.result in
     let old : SessionData = c.args.session.now in
     let mid : SessionData = c.turn-turned.new.self in
-    let kind : LinkKind = g.L.Link.kind c.args.link.now in
-    let now = g.L.Link.past c.turn-turned.new.link in
-    let h : HasTurned c.args.moment kind (g.L.Link.past c.args.link.now) now (g.L.Link.calls c.args.link.now) (g.L.Link.calls c.turn-turned.new.link) old mid turned =
+    let kind : LinkKind = (g.L.Link.state c.args.link.now).kind in
+    let now = (g.L.Link.state c.turn-turned.new.link).past in
+    let h : HasTurned c.args.moment kind (g.L.Link.state c.args.link.now).past now (g.L.Link.state c.args.link.now).calls (g.L.Link.state c.turn-turned.new.link).calls old mid turned =
     record {
       turn = e.turn;
       kept = kept_by_note e.by_note;
@@ -107,10 +107,10 @@ returns-clause-prompt g c p poll_ms at left prompt steady range before after way
     let turned = c.turn-turned.result in
     let old : SessionData = c.args.session.now in
     let mid : SessionData = c.turn-turned.new.self in
-    let kind : LinkKind = g.L.Link.kind c.args.link.now in
-    let now = g.L.Link.past c.turn-turned.new.link in
+    let kind : LinkKind = (g.L.Link.state c.args.link.now).kind in
+    let now = (g.L.Link.state c.turn-turned.new.link).past in
     let moment : c.args.moment ≡ range.last = range_moment c.args.moment old.sender.limit poll_ms range in
-    let h : IsPromptTurn c.args.moment at poll_ms kind (g.L.Link.past c.args.link.now) now (g.L.Link.calls c.args.link.now) (g.L.Link.calls c.turn-turned.new.link) old mid turned =
+    let h : IsPromptTurn c.args.moment at poll_ms kind (g.L.Link.state c.args.link.now).past now (g.L.Link.state c.args.link.now).calls (g.L.Link.state c.turn-turned.new.link).calls old mid turned =
     record {
       turn = e.turn;
       kept = kept_by_note e.by_note;

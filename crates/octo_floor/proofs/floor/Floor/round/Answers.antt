@@ -1,6 +1,6 @@
 use Rattle.std.proofs.Common.{subst}
 use Rattle.octo_floor_rules.proofs.Numbers.{numbers_differ}
-use Rattle.octo_floor_step.specs.Objects.{link_state, store_state}
+use Rattle.octo_floor_step.specs.Objects.{store_state}
 use Rattle.octo_floor_round_proof.specs.Floor.{FloorData, IsFloor, setting}
 use Rattle.octo_floor.specs.Links.{link_states}
 use Rattle.octo_floor_round_proof.proofs.Goes.{GoesWell, well_round}
@@ -12,18 +12,18 @@ floor : (g : given.Over) (c : goal.Joined-before g) → IsFloor c.args.self.now
 floor g c = subst (λ (f : FloorData). IsFloor f) c.self.view_is c.self.invariant
 
 well : (g : given.Over) (c : goal.Joined-before g) → GoesWell
-    (setting c.args.self.now (link_states (link_state g.L.Link.kind g.L.Link.past g.L.Link.calls g.L.Link.up g.L.Link.faults) c.args.links.now)
-    (store_state g.K.Keeper.tables g.K.Keeper.faults g.S.Shelf.files g.S.Shelf.faults c.args.keeper.now c.args.shelf.now))
-    (setting c.round_into-heard.new.self (link_states (link_state g.L.Link.kind g.L.Link.past g.L.Link.calls g.L.Link.up g.L.Link.faults)
+    (setting c.args.self.now (link_states (g.L.Link.state) c.args.links.now)
+    (store_state (g.K.Keeper.state c.args.keeper.now) (g.S.Shelf.state c.args.shelf.now)))
+    (setting c.round_into-heard.new.self (link_states (g.L.Link.state)
     c.round_into-heard.new.links)
-    (store_state g.K.Keeper.tables g.K.Keeper.faults g.S.Shelf.files g.S.Shelf.faults c.round_into-heard.new.keeper c.round_into-heard.new.shelf))
+    (store_state (g.K.Keeper.state c.round_into-heard.new.keeper) (g.S.Shelf.state c.round_into-heard.new.shelf)))
     c.round_into-heard.new.events.items
 well g c = well_round c.args.moment
-    (setting c.args.self.now (link_states (link_state g.L.Link.kind g.L.Link.past g.L.Link.calls g.L.Link.up g.L.Link.faults) c.args.links.now)
-    (store_state g.K.Keeper.tables g.K.Keeper.faults g.S.Shelf.files g.S.Shelf.faults c.args.keeper.now c.args.shelf.now))
-    (setting c.round_into-heard.new.self (link_states (link_state g.L.Link.kind g.L.Link.past g.L.Link.calls g.L.Link.up g.L.Link.faults)
+    (setting c.args.self.now (link_states (g.L.Link.state) c.args.links.now)
+    (store_state (g.K.Keeper.state c.args.keeper.now) (g.S.Shelf.state c.args.shelf.now)))
+    (setting c.round_into-heard.new.self (link_states (g.L.Link.state)
     c.round_into-heard.new.links)
-    (store_state g.K.Keeper.tables g.K.Keeper.faults g.S.Shelf.files g.S.Shelf.faults c.round_into-heard.new.keeper c.round_into-heard.new.shelf))
+    (store_state (g.K.Keeper.state c.round_into-heard.new.keeper) (g.S.Shelf.state c.round_into-heard.new.shelf)))
     c.round_into-heard.result c.round_into-heard.new.events.items c.round_into-heard.ensures.round (floor g c) c.requires.up
 
 pub returns-clause-goes : goal.returns-clause-goes
@@ -31,11 +31,11 @@ returns-clause-goes g c = (well g c).goes
 
 pub returns-clause-idle : goal.returns-clause-idle
 returns-clause-idle g c = idle_round c.args.moment
-    (setting c.args.self.now (link_states (link_state g.L.Link.kind g.L.Link.past g.L.Link.calls g.L.Link.up g.L.Link.faults) c.args.links.now)
-    (store_state g.K.Keeper.tables g.K.Keeper.faults g.S.Shelf.files g.S.Shelf.faults c.args.keeper.now c.args.shelf.now))
-    (setting c.round_into-heard.new.self (link_states (link_state g.L.Link.kind g.L.Link.past g.L.Link.calls g.L.Link.up g.L.Link.faults)
+    (setting c.args.self.now (link_states (g.L.Link.state) c.args.links.now)
+    (store_state (g.K.Keeper.state c.args.keeper.now) (g.S.Shelf.state c.args.shelf.now)))
+    (setting c.round_into-heard.new.self (link_states (g.L.Link.state)
     c.round_into-heard.new.links)
-    (store_state g.K.Keeper.tables g.K.Keeper.faults g.S.Shelf.files g.S.Shelf.faults c.round_into-heard.new.keeper c.round_into-heard.new.shelf))
+    (store_state (g.K.Keeper.state c.round_into-heard.new.keeper) (g.S.Shelf.state c.round_into-heard.new.shelf)))
     c.round_into-heard.result c.round_into-heard.new.events.items c.round_into-heard.ensures.round (floor g c) c.requires.up
 
 pub returns-clause-numbers : goal.returns-clause-numbers

@@ -1,5 +1,5 @@
 use Rattle.std.proofs.Common.{◌≡◌, ◌*◌, ◌≤◌, length}
-use Rattle.octo_floor_step.specs.Objects.{link_state, store_state}
+use Rattle.octo_floor_step.specs.Objects.{store_state}
 use Rattle.octo_floor_round_proof.specs.Floor.{setting, IsFloor, AreUp}
 use Rattle.octo_floor.specs.Links.{link_states}
 use Rattle.octo_floor_round_proof.specs.Round.{Steps}
@@ -9,14 +9,14 @@ use Rattle.octo_floor.proofs.floor.Floor.round_into.Given as goal
 abbrev pub invariant-loop-printer : goal.invariant-loop-printer
 invariant-loop-printer g l = record {
   steps : Steps l.printer l.moment
-      (setting l.initial.self (link_states (link_state g.L.Link.kind g.L.Link.past g.L.Link.calls g.L.Link.up g.L.Link.faults) l.initial.links)
-      (store_state g.K.Keeper.tables g.K.Keeper.faults g.S.Shelf.files g.S.Shelf.faults l.initial.keeper l.initial.shelf))
-      (setting l.self (link_states (link_state g.L.Link.kind g.L.Link.past g.L.Link.calls g.L.Link.up g.L.Link.faults) l.links)
-      (store_state g.K.Keeper.tables g.K.Keeper.faults g.S.Shelf.files g.S.Shelf.faults l.keeper l.shelf))
+      (setting l.initial.self (link_states (g.L.Link.state) l.initial.links)
+      (store_state (g.K.Keeper.state l.initial.keeper) (g.S.Shelf.state l.initial.shelf)))
+      (setting l.self (link_states (g.L.Link.state) l.links)
+      (store_state (g.K.Keeper.state l.keeper) (g.S.Shelf.state l.shelf)))
       l.heard l.events.items;
   end : l.printer-end ≡ length l.initial.self.bays;
   moment : l.moment ≡ l.fn.moment;
   few : length l.events.items ≤ 3 * l.printer;
-  up : AreUp l.self.bays (link_states (link_state g.L.Link.kind g.L.Link.past g.L.Link.calls g.L.Link.up g.L.Link.faults) l.links);
+  up : AreUp l.self.bays (link_states (g.L.Link.state) l.links);
   floor : IsFloor l.initial.self;
 }

@@ -1,7 +1,7 @@
 use Rattle.std.proofs.Common.{◌≡◌, ◌<◌, ℕ, List, length, get_or, Some, refl, sym, subst, arith}
 use Rattle.std.specs.Prelude.{slice_get, slice_set}
 use Rattle.std.proofs.lemmas.Option.{slice_get_read}
-use Rattle.octo_floor_step.specs.Objects.{link_state, store_state}
+use Rattle.octo_floor_step.specs.Objects.{store_state}
 use Rattle.octo_floor.specs.Fields.{floor_of}
 use Rattle.octo_floor_round_proof.specs.Floor.{FloorData}
 use Rattle.octo_floor_round_proof.specs.Round.{IsStepOver}
@@ -14,10 +14,10 @@ read xs i x within is = slice_get_read xs (length xs) i x refl within is
 
 -- the step, from the floor's data
 over : (g : given.Over) (c : goal.After-self-1 g) → IsStepOver c.args.printer c.args.moment
-    (link_state g.L.Link.kind g.L.Link.past g.L.Link.calls g.L.Link.up g.L.Link.faults c.args.link.now)
-    (link_state g.L.Link.kind g.L.Link.past g.L.Link.calls g.L.Link.up g.L.Link.faults c.step.new.link)
-    (store_state g.K.Keeper.tables g.K.Keeper.faults g.S.Shelf.files g.S.Shelf.faults c.args.keeper.now c.args.shelf.now)
-    (store_state g.K.Keeper.tables g.K.Keeper.faults g.S.Shelf.files g.S.Shelf.faults c.step.new.keeper c.step.new.shelf) (floor_of c.self.inside)
+    (g.L.Link.state c.args.link.now)
+    (g.L.Link.state c.step.new.link)
+    (store_state (g.K.Keeper.state c.args.keeper.now) (g.S.Shelf.state c.args.shelf.now))
+    (store_state (g.K.Keeper.state c.step.new.keeper) (g.S.Shelf.state c.step.new.shelf)) (floor_of c.self.inside)
     (record (floor_of c.self.inside) { bays = slice_set c.self.inside.bays.items c.args.printer c.step.new.bay; ledger = c.step.new.self }) c.step.result
     c.step.ensures.step.0
 over g c =
@@ -42,20 +42,20 @@ over g c =
 
 pub invariant_of-self : goal.invariant_of-self
 invariant_of-self g c =
-    floor_after c.args.printer c.args.moment (link_state g.L.Link.kind g.L.Link.past g.L.Link.calls g.L.Link.up g.L.Link.faults c.args.link.now)
-    (link_state g.L.Link.kind g.L.Link.past g.L.Link.calls g.L.Link.up g.L.Link.faults c.step.new.link)
-    (store_state g.K.Keeper.tables g.K.Keeper.faults g.S.Shelf.files g.S.Shelf.faults c.args.keeper.now c.args.shelf.now)
-    (store_state g.K.Keeper.tables g.K.Keeper.faults g.S.Shelf.files g.S.Shelf.faults c.step.new.keeper c.step.new.shelf) (floor_of c.self.inside)
+    floor_after c.args.printer c.args.moment (g.L.Link.state c.args.link.now)
+    (g.L.Link.state c.step.new.link)
+    (store_state (g.K.Keeper.state c.args.keeper.now) (g.S.Shelf.state c.args.shelf.now))
+    (store_state (g.K.Keeper.state c.step.new.keeper) (g.S.Shelf.state c.step.new.shelf)) (floor_of c.self.inside)
     (record (floor_of c.self.inside) { bays = slice_set c.self.inside.bays.items c.args.printer c.step.new.bay; ledger = c.step.new.self }) c.step.result
     c.step.ensures.step.0 (over g c) c.self.invariant
 
 pub returns-clause-step : goal.returns-clause-step
 returns-clause-step g c =
     let Over : FloorData → Type 0 = λ f. IsStepOver c.args.printer c.args.moment
-    (link_state g.L.Link.kind g.L.Link.past g.L.Link.calls g.L.Link.up g.L.Link.faults c.args.link.now)
-    (link_state g.L.Link.kind g.L.Link.past g.L.Link.calls g.L.Link.up g.L.Link.faults c.step.new.link)
-    (store_state g.K.Keeper.tables g.K.Keeper.faults g.S.Shelf.files g.S.Shelf.faults c.args.keeper.now c.args.shelf.now)
-    (store_state g.K.Keeper.tables g.K.Keeper.faults g.S.Shelf.files g.S.Shelf.faults c.step.new.keeper c.step.new.shelf) f
+    (g.L.Link.state c.args.link.now)
+    (g.L.Link.state c.step.new.link)
+    (store_state (g.K.Keeper.state c.args.keeper.now) (g.S.Shelf.state c.args.shelf.now))
+    (store_state (g.K.Keeper.state c.step.new.keeper) (g.S.Shelf.state c.step.new.shelf)) f
     (record (floor_of c.self.inside) { bays = slice_set c.self.inside.bays.items c.args.printer c.step.new.bay; ledger = c.step.new.self }) c.step.result
     c.step.ensures.step.0
     in

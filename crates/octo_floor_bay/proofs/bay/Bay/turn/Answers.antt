@@ -23,8 +23,8 @@ adds g c =
 pub invariant_of-self : goal.invariant_of-self
 invariant_of-self g c =
     let t = c.turn-turned.ensures in
-    turn_bay c.args.moment (g.L.Link.kind c.args.link.now) (g.L.Link.past c.args.link.now) (g.L.Link.past c.turn-turned.new.link)
-    (g.L.Link.calls c.args.link.now) (g.L.Link.calls c.turn-turned.new.link) c.self.inside.session c.turn-turned.new.self c.turn-turned.result t.turn t.by_note
+    turn_bay c.args.moment (g.L.Link.state c.args.link.now).kind (g.L.Link.state c.args.link.now).past (g.L.Link.state c.turn-turned.new.link).past
+    (g.L.Link.state c.args.link.now).calls (g.L.Link.state c.turn-turned.new.link).calls c.self.inside.session c.turn-turned.new.self c.turn-turned.result t.turn t.by_note
     c.self.inside.deeds c.add_turn.new.deeds (adds g c) c.self.invariant
 
 pub returns-clause-bay : goal.returns-clause-bay
@@ -33,9 +33,9 @@ returns-clause-bay g c = invariant_of-self g c
 pub returns-clause-tied : goal.returns-clause-tied
 returns-clause-tied g c front step =
     let t = c.turn-turned.ensures in
-    let In : BayData → Type 0 = λ b. IsInStep (g.L.Link.kind c.args.link.now) front (g.L.Link.past c.args.link.now) b in
-    turn_ties c.args.moment (g.L.Link.kind c.args.link.now) (g.L.Link.past c.args.link.now) (g.L.Link.past c.turn-turned.new.link)
-    (g.L.Link.calls c.args.link.now) (g.L.Link.calls c.turn-turned.new.link) c.self.inside.session c.turn-turned.new.self c.turn-turned.result t.turn t.by_note
+    let In : BayData → Type 0 = λ b. IsInStep (g.L.Link.state c.args.link.now).kind front (g.L.Link.state c.args.link.now).past b in
+    turn_ties c.args.moment (g.L.Link.state c.args.link.now).kind (g.L.Link.state c.args.link.now).past (g.L.Link.state c.turn-turned.new.link).past
+    (g.L.Link.state c.args.link.now).calls (g.L.Link.state c.turn-turned.new.link).calls c.self.inside.session c.turn-turned.new.self c.turn-turned.result t.turn t.by_note
     c.self.inside.deeds c.add_turn.new.deeds (adds g c) front (subst In (sym c.self.view_is) step)
 
 pub returns-clause-ends : goal.returns-clause-ends
@@ -44,6 +44,6 @@ returns-clause-ends g c =
     let Old : BayData → Type 0 =
     λ b. EndsBy c.turn-turned.result.ending (run_in b) (run_in (bay_with c.turn-turned.new.self c.add_turn.new.deeds))
     in
-    subst Old c.self.view_is (turn_ends c.args.moment (g.L.Link.kind c.args.link.now) (g.L.Link.past c.args.link.now) (g.L.Link.past c.turn-turned.new.link)
-    (g.L.Link.calls c.args.link.now) (g.L.Link.calls c.turn-turned.new.link) c.self.inside.session c.turn-turned.new.self c.turn-turned.result t.turn t.by_note
+    subst Old c.self.view_is (turn_ends c.args.moment (g.L.Link.state c.args.link.now).kind (g.L.Link.state c.args.link.now).past (g.L.Link.state c.turn-turned.new.link).past
+    (g.L.Link.state c.args.link.now).calls (g.L.Link.state c.turn-turned.new.link).calls c.self.inside.session c.turn-turned.new.self c.turn-turned.result t.turn t.by_note
     t.active c.self.inside.deeds c.add_turn.new.deeds c.self.invariant (adds g c))

@@ -6,6 +6,6 @@ use Rattle.octo_floor_step.proofs.ledger.Ledger.end_print.Goals as goal
 pub returns-clause-faults : goal.returns-clause-faults
 returns-clause-faults g c shelf =
     let From : LedgerData → Type 0 =
-    λ l. FaultsCame l.fault c.write.new.self.fault (g.K.Keeper.faults c.args.keeper.now) (g.K.Keeper.faults c.write.new.keeper) shelf shelf
+    λ l. FaultsCame l.fault c.write.new.self.fault (g.K.Keeper.state c.args.keeper.now).faults (g.K.Keeper.state c.write.new.keeper).faults shelf shelf
     in
     subst From c.add_ending.ensures.ledger (c.write.ensures.faults shelf)

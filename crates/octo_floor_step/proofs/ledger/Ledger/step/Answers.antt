@@ -33,11 +33,11 @@ returns-clause-step g c =
     let begins = c.start_next.ensures.begins in
     let begun : FloorHistory = begins.0 in
     let first : FloorHistory = c.args.events.now.items in
-    let Told : LedgerData → Type 0 = λ l. IsEndTold c.args.printer c.turn-note.result.ending (g.K.Keeper.tables c.args.keeper.now)
-    (g.K.Keeper.tables c.end_print.new.keeper) l c.end_print.new.self
+    let Told : LedgerData → Type 0 = λ l. IsEndTold c.args.printer c.turn-note.result.ending (g.K.Keeper.state c.args.keeper.now).tables
+    (g.K.Keeper.state c.end_print.new.keeper).tables l c.end_print.new.self
     in
-    let Came : LedgerData → Type 0 = λ l. FaultsCame l.fault c.end_print.new.self.fault (g.K.Keeper.faults c.args.keeper.now)
-    (g.K.Keeper.faults c.end_print.new.keeper) (g.S.Shelf.faults c.args.shelf.now) (g.S.Shelf.faults c.args.shelf.now)
+    let Came : LedgerData → Type 0 = λ l. FaultsCame l.fault c.end_print.new.self.fault (g.K.Keeper.state c.args.keeper.now).faults
+    (g.K.Keeper.state c.end_print.new.keeper).faults (g.S.Shelf.state c.args.shelf.now).faults (g.S.Shelf.state c.args.shelf.now).faults
     in
     let events : c.start_next.new.events.items ≡ first ++ (noted ++ ended ++ begun) =
     begins.1
@@ -62,7 +62,7 @@ returns-clause-step g c =
           calls = t.calls;
         };
         heard_is = refl;
-        tables = g.K.Keeper.tables c.end_print.new.keeper;
+        tables = (g.K.Keeper.state c.end_print.new.keeper).tables;
         told = c.end_print.new.self;
         ending = subst Told c.add_note.ensures.ledger c.end_print.ensures.told;
         begun = begun;
@@ -70,9 +70,9 @@ returns-clause-step g c =
         events_are = refl;
         files = c.start_next.ensures.files;
         faults =
-            came_then c.args.self.now.fault c.end_print.new.self.fault c.start_next.new.self.fault (g.K.Keeper.faults c.args.keeper.now)
-            (g.K.Keeper.faults c.end_print.new.keeper) (g.K.Keeper.faults c.start_next.new.keeper) (g.S.Shelf.faults c.args.shelf.now)
-            (g.S.Shelf.faults c.args.shelf.now) (g.S.Shelf.faults c.start_next.new.shelf)
-            (subst Came c.add_note.ensures.ledger (c.end_print.ensures.faults (g.S.Shelf.faults c.args.shelf.now))) c.start_next.ensures.faults;
+            came_then c.args.self.now.fault c.end_print.new.self.fault c.start_next.new.self.fault (g.K.Keeper.state c.args.keeper.now).faults
+            (g.K.Keeper.state c.end_print.new.keeper).faults (g.K.Keeper.state c.start_next.new.keeper).faults (g.S.Shelf.state c.args.shelf.now).faults
+            (g.S.Shelf.state c.args.shelf.now).faults (g.S.Shelf.state c.start_next.new.shelf).faults
+            (subst Came c.add_note.ensures.ledger (c.end_print.ensures.faults (g.S.Shelf.state c.args.shelf.now).faults)) c.start_next.ensures.faults;
       },
     )

@@ -46,11 +46,11 @@ pub returns-then-is_free-clause-rest : goal.returns-then-is_free-clause-rest
 returns-then-is_free-clause-rest g c =
     let alone = c.free.ensures.alone in
     record {
-      kept = λ begun is. subst (λ (t : TablesData). IsKept begun (g.K.Keeper.tables c.args.keeper.now) t) (sym alone.tables) is;
+      kept = λ begun is. subst (λ (t : TablesData). IsKept begun (g.K.Keeper.state c.args.keeper.now).tables t) (sym alone.tables) is;
       listed = λ held files at. alone.names ∙ held files at;
       apart = alone.apart;
-      keeper = uncounted (is_keepers c.free.result) (g.K.Keeper.faults c.args.keeper.now) c.free.ensures.plain.keeper;
-      shelf = uncounted (is_shelfs c.free.result) (g.S.Shelf.faults c.args.shelf.now) c.free.ensures.plain.shelf;
+      keeper = uncounted (is_keepers c.free.result) (g.K.Keeper.state c.args.keeper.now).faults c.free.ensures.plain.keeper;
+      shelf = uncounted (is_shelfs c.free.result) (g.S.Shelf.state c.args.shelf.now).faults c.free.ensures.plain.shelf;
     }
 
 pub returns-in-Err-clause-denied : goal.returns-in-Err-clause-denied
@@ -96,14 +96,14 @@ pub returns-in-Ok-clause-done : goal.returns-in-Ok-clause-done
 returns-in-Ok-clause-done g c = λ files.
     let k = known_of c.args.self.now in
     let may = c.in-Ok.ensures in
-    subst (λ (v : Verdict). (g.S.Shelf.files c.args.shelf.now ≡ Some files) ⊎ (asks_files v ≡ false) → IsDone v c.answer.result k (known_of c.answer.new.self))
+    subst (λ (v : Verdict). ((g.S.Shelf.state c.args.shelf.now).files ≡ Some files) ⊎ (asks_files v ≡ false) → IsDone v c.answer.result k (known_of c.answer.new.self))
     (sym (lacks-none c.args.ask.key c.args.ask.request files k (needed c.args.ask.request) c.in-Ok.user may.some may.known may.all)) (c.answer.ensures.done files)
 
 pub returns-in-Ok-clause-files : goal.returns-in-Ok-clause-files
 returns-in-Ok-clause-files g c = λ files at.
     let k = known_of c.args.self.now in
     let may = c.in-Ok.ensures in
-    subst (λ (v : Verdict). g.S.Shelf.files c.answer.new.shelf ≡ Some (files_after v c.answer.result files))
+    subst (λ (v : Verdict). (g.S.Shelf.state c.answer.new.shelf).files ≡ Some (files_after v c.answer.result files))
     (sym (lacks-none c.args.ask.key c.args.ask.request files k (needed c.args.ask.request) c.in-Ok.user may.some may.known may.all)) (c.answer.ensures.files files at)
 
 pub returns-then-is_free-clause-some : goal.returns-then-is_free-clause-some

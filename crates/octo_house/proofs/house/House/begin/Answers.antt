@@ -21,7 +21,7 @@ returns-in-Ok-clause-made g c =
 pub returns-in-Ok-clause-begins : goal.returns-in-Ok-clause-begins
 returns-in-Ok-clause-begins g c = λ tables held files listed.
     let kept = c.in-Ok.ensures.read in
-    let same : kept.loaded ≡ tables = read-is (λ (one : Tables). kept.loaded ≡ one) (g.K.Keeper.tables c.args.keeper.now) tables kept.same held in
+    let same : kept.loaded ≡ tables = read-is (λ (one : Tables). kept.loaded ≡ one) (g.K.Keeper.state c.args.keeper.now).tables tables kept.same held in
     let read = read-from kept.loaded tables c.in-Ok.tables same kept.read in
     record {
       policy_is = refl;
@@ -34,7 +34,7 @@ returns-in-Ok-clause-begins g c = λ tables held files listed.
       queue = read.queue;
       lawful = read.lawful;
       prints = read.prints;
-      names = read-is (λ (one : List ShelfFile). c.in-Ok.names.items ≡ names_of one) (g.S.Shelf.files c.args.shelf.now) files c.in-Ok.ensures.names listed;
+      names = read-is (λ (one : List ShelfFile). c.in-Ok.names.items ≡ names_of one) (g.S.Shelf.state c.args.shelf.now).files files c.in-Ok.ensures.names listed;
     }
 
 pub returns-in-Ok-clause-kept : goal.returns-in-Ok-clause-kept
@@ -42,10 +42,10 @@ returns-in-Ok-clause-kept g c = λ tables held users queue other again.
     let kept = c.in-Ok.ensures.read in
     let same : tables ≡ other = cc (held, again) in
     let loaded : kept.loaded ≡ tables =
-    read-is (λ (one : Tables). kept.loaded ≡ one) (g.K.Keeper.tables c.args.keeper.now) tables kept.same (sym c.in-Ok.ensures.tables ∙ held) in
+    read-is (λ (one : Tables). kept.loaded ≡ one) (g.K.Keeper.state c.args.keeper.now).tables tables kept.same (sym c.in-Ok.ensures.tables ∙ held) in
     rw (← same) (kept-begun kept.loaded tables c.in-Ok.tables loaded kept.sound kept.read users queue)
 
 pub returns-in-Ok-clause-listed : goal.returns-in-Ok-clause-listed
 returns-in-Ok-clause-listed g c = λ files listed.
-    read-is (λ (one : List ShelfFile). c.in-Ok.names.items ≡ names_of one) (g.S.Shelf.files c.args.shelf.now) files c.in-Ok.ensures.names
+    read-is (λ (one : List ShelfFile). c.in-Ok.names.items ≡ names_of one) (g.S.Shelf.state c.args.shelf.now).files files c.in-Ok.ensures.names
     (sym c.in-Ok.ensures.files ∙ listed)

@@ -21,7 +21,7 @@ returns-in-Some-clause-done g c = λ files.
     let is : next_verdict files k ≡ take_verdict files k c.in-Some.entry =
     ap (λ (b : Bool). refused_if b (answer.WrongState k.desk.state) (found_or (find (fits k.material) k.queue) answer.NoEntry (take_verdict files k))) may
     ∙ ap (λ (o : Option QueueEntry). found_or o answer.NoEntry (take_verdict files k)) found in
-    subst (λ (v : Verdict). (g.S.Shelf.files c.args.shelf.now ≡ Some files) ⊎ (asks_files v ≡ false) → IsDone v c.print_entry.result k (known_of c.print_entry.new.self))
+    subst (λ (v : Verdict). ((g.S.Shelf.state c.args.shelf.now).files ≡ Some files) ⊎ (asks_files v ≡ false) → IsDone v c.print_entry.result k (known_of c.print_entry.new.self))
     (sym is) (c.print_entry.ensures.done files)
 
 pub returns-in-Some-clause-some : goal.returns-in-Some-clause-some

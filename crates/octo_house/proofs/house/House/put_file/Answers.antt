@@ -57,7 +57,7 @@ pub returns-then-not-wanted-clause-files : goal.returns-then-not-wanted-clause-f
 returns-then-not-wanted-clause-files g c =
     shelved c.args.user.now c.args.name.now c.args.file c.args.asked.select c.args.asked.print (known_of c.args.self.now) c.in-Ok.job
     (job-is _ c.in-Ok.job c.in-Ok.ensures.exact) c.unprinted.result _ _ c.in_default.ensures.stored.allowed (plain-unprinted _ _ _ _ c.unprinted.ensures)
-    (c.in_default.ensures.files ∙ ap (λ (bytes : List ℕ). option_map (with_file c.args.name.now bytes) (g.S.Shelf.files c.args.shelf.now)) c.in-Ok.ensures.bytes)
+    (c.in_default.ensures.files ∙ ap (λ (bytes : List ℕ). option_map (with_file c.args.name.now bytes) (g.S.Shelf.state c.args.shelf.now).files) c.in-Ok.ensures.bytes)
 
 pub returns-then-not-wanted-clause-rest : goal.returns-then-not-wanted-clause-rest
 returns-then-not-wanted-clause-rest g c = record {
@@ -83,7 +83,7 @@ pub returns-then-not-wanted-2-clause-files : goal.returns-then-not-wanted-2-clau
 returns-then-not-wanted-2-clause-files g c =
     shelved c.args.user.now c.args.name.now c.args.file c.args.asked.select c.args.asked.print (known_of c.args.self.now) c.in-Ok.job
     (job-is _ c.in-Ok.job c.in-Ok.ensures.exact) c.unprinted-then-not-wanted-2.result _ _ c.in_default.ensures.stored.allowed (plain-unprinted _ _ _ _ c.unprinted-then-not-wanted-2.ensures)
-    (c.in_default.ensures.files ∙ ap (λ (bytes : List ℕ). option_map (with_file c.args.name.now bytes) (g.S.Shelf.files c.args.shelf.now)) c.in-Ok.ensures.bytes)
+    (c.in_default.ensures.files ∙ ap (λ (bytes : List ℕ). option_map (with_file c.args.name.now bytes) (g.S.Shelf.state c.args.shelf.now).files) c.in-Ok.ensures.bytes)
 
 pub returns-then-not-wanted-2-clause-rest : goal.returns-then-not-wanted-2-clause-rest
 returns-then-not-wanted-2-clause-rest g c = record {
@@ -124,7 +124,7 @@ pub returns-clause-files : goal.returns-clause-files
 returns-clause-files g c =
     shelved c.args.user.now c.args.name.now c.args.file c.args.asked.select c.args.asked.print (known_of c.args.self.now) c.in-Ok.job
     (job-is _ c.in-Ok.job c.in-Ok.ensures.exact) c.print_stored.result _ _ c.in_default.ensures.stored.allowed c.print_stored.ensures.plain
-    (c.in_default.ensures.files ∙ ap (λ (bytes : List ℕ). option_map (with_file c.args.name.now bytes) (g.S.Shelf.files c.args.shelf.now)) c.in-Ok.ensures.bytes)
+    (c.in_default.ensures.files ∙ ap (λ (bytes : List ℕ). option_map (with_file c.args.name.now bytes) (g.S.Shelf.state c.args.shelf.now).files) c.in-Ok.ensures.bytes)
 
 pub returns-clause-rest : goal.returns-clause-rest
 returns-clause-rest g c = record {

@@ -25,7 +25,7 @@ pub returns-clause-kept : goal.returns-clause-kept
 returns-clause-kept g c =
     keeps-changed (change.Begin c.end_with.result c.args.row c.args.taken) _ _ _ _
     (c.in_ok-commit.ensures.ok
-    ∙ ap (λ row. option_map (changed (change.Begin c.end_with.result row c.copy_taken.result)) (g.K.Keeper.tables c.args.keeper.now)) c.copy.ensures
-    ∙ ap (λ taken. option_map (changed (change.Begin c.end_with.result c.args.row taken)) (g.K.Keeper.tables c.args.keeper.now)) c.copy_taken.ensures)
+    ∙ ap (λ row. option_map (changed (change.Begin c.end_with.result row c.copy_taken.result)) (g.K.Keeper.state c.args.keeper.now).tables) c.copy.ensures
+    ∙ ap (λ taken. option_map (changed (change.Begin c.end_with.result c.args.row taken)) (g.K.Keeper.state c.args.keeper.now).tables) c.copy_taken.ensures)
     (kept-begin c.args.ended c.end_with.result c.args.row c.args.taken c.args.self.now _ c.requires
     (c.end_with.ensures ∙ ap (λ (t : TablesData). option_or c.args.ended (due_of t)) c.self.view_is) (returns-clause-ok g c))

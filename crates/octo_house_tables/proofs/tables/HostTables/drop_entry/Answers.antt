@@ -19,8 +19,8 @@ pub returns-clause-rest : goal.returns-clause-rest
 returns-clause-rest g c = record {
   kept = keeps-changed (change.DropEntry c.args.user.now c.args.name.now) _ _ _ _
       (c.in_default.ensures.ok
-      ∙ ap (λ user. option_map (changed (change.DropEntry user c.copy-2.result)) (g.K.Keeper.tables c.args.keeper.now)) c.copy.ensures
-      ∙ ap (λ name. option_map (changed (change.DropEntry c.args.user.now name)) (g.K.Keeper.tables c.args.keeper.now)) c.copy-2.ensures)
+      ∙ ap (λ user. option_map (changed (change.DropEntry user c.copy-2.result)) (g.K.Keeper.state c.args.keeper.now).tables) c.copy.ensures
+      ∙ ap (λ name. option_map (changed (change.DropEntry c.args.user.now name)) (g.K.Keeper.state c.args.keeper.now).tables) c.copy-2.ensures)
       (kept-drop c.args.user.now c.args.name.now _ _ (queue-over _ _ c.remove.new.self.rows (without c.args.user.now c.args.name.now) c.self.view_is
       (dropped-rows c.args.user.now c.args.name.now c.self.inside.queue c.remove.new.self c.remove.result c.remove.ensures.answer c.remove.ensures.rows
       c.remove.ensures.err)));

@@ -20,7 +20,7 @@ returns-then-put-clause-done g c =
     let rows = c.self.inside.queue.rows in
     let fresh : c.in-Ok.put.fresh ≡ true = c.if-put.true in
     put-done c.args.self.now _ c.write_entry.new.self c.args.asked.now c.in-Ok.put c.write_entry.result
-    (g.K.Keeper.tables c.args.keeper.now) (g.K.Keeper.tables c.write_entry.new.keeper)
+    (g.K.Keeper.state c.args.keeper.now).tables (g.K.Keeper.state c.write_entry.new.keeper).tables
     (ap (λ (t : TablesData). put_answer t.queue c.args.asked.now) (sym c.self.view_is) ∙ ap (put_answer rows) c.requires.new ∙ sym
     (c.in-Ok.ensures.answer (λ e. absurd (cc e))))
     fresh
@@ -34,7 +34,7 @@ returns-then-put-clause-rest g c =
     let fresh : c.in-Ok.put.fresh ≡ true = c.if-put.true in
     record {
       kept = put-keeps c.args.self.now _ c.write_entry.new.self c.args.asked.now c.in-Ok.put c.write_entry.result
-          (g.K.Keeper.tables c.args.keeper.now) (g.K.Keeper.tables c.write_entry.new.keeper)
+          (g.K.Keeper.state c.args.keeper.now).tables (g.K.Keeper.state c.write_entry.new.keeper).tables
           (ap (λ (t : TablesData). put_answer t.queue c.args.asked.now) (sym c.self.view_is) ∙ ap (put_answer rows) c.requires.new ∙ sym
           (c.in-Ok.ensures.answer (λ e. absurd (cc e))))
           fresh

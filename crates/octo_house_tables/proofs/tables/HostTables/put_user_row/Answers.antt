@@ -21,7 +21,7 @@ returns-in-Err-clause-rest g c = record {
 pub returns-in-Ok-clause-rest : goal.returns-in-Ok-clause-rest
 returns-in-Ok-clause-rest g c = record {
   kept = keeps-changed (change.PutUser c.args.row.now) _ _ _ _
-      (c.in-Ok.ensures.ok ∙ ap (λ row. option_map (changed (change.PutUser row)) (g.K.Keeper.tables c.args.keeper.now)) c.copy.ensures)
+      (c.in-Ok.ensures.ok ∙ ap (λ row. option_map (changed (change.PutUser row)) (g.K.Keeper.state c.args.keeper.now).tables) c.copy.ensures)
       (kept-user c.args.row.now _ _ (users-over _ _ c.put.new.self (with_row c.args.row.now) c.self.view_is c.in_default.ensures.rows));
   prints = search rules;
   written = search rules;

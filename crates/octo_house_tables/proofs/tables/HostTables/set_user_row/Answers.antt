@@ -29,7 +29,7 @@ restore-requires-clause-key g c =
 pub returns-in-Ok-commit-clause-rest : goal.returns-in-Ok-commit-clause-rest
 returns-in-Ok-commit-clause-rest g c = record {
   kept = keeps-changed (change.SetUser c.args.row.now) _ _ _ _
-      (c.in-Ok-commit.ensures.ok ∙ ap (λ row. option_map (changed (change.SetUser row)) (g.K.Keeper.tables c.args.keeper.now)) c.copy.ensures)
+      (c.in-Ok-commit.ensures.ok ∙ ap (λ row. option_map (changed (change.SetUser row)) (g.K.Keeper.state c.args.keeper.now).tables) c.copy.ensures)
       (kept-set c.args.row.now _ _ c.requires (users-over _ _ c.change.new.self (replaced c.args.row.now) c.self.view_is c.in-Ok.ensures.rows));
   prints = search rules;
   written = search rules;
