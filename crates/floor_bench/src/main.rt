@@ -8,11 +8,11 @@ mod file;
 mod single;
 
 use file::FILE;
-use floor_makers::{CLEAN, MemoryFloor, Shop};
-use octo_floor_rules::Why;
+use octo_floor_bay::Why;
 use octo_outside::{WordList, arguments};
 use single::print_alone;
 use std::alloc::Global;
+use test_makers::{CLEAN, MemoryFloor, Shop};
 
 // Eight copies, or 1,000, of one file in PLA.
 const FEW: Shop = Shop {

@@ -4,12 +4,12 @@ ghost use Rattle.printer_link.specs.Memory.{link_world};
 
 use crate::file::FILE;
 use byte_text::Name;
-use floor_makers::{CLEAN, PORT, link_of, session_of};
 use gcode_lines::{Job, read_commands};
 use octo_outside::{Blob, MemoryClock};
 use octo_session_print::{PrintEnd, run_print};
 use printer_link::MemoryLink;
 use std::alloc::Global;
+use test_makers::{CLEAN, PORT, link_of, session_of};
 
 // The turns within which each print ends.
 const TURNS: u64 = 1_000_000_000;

@@ -53,8 +53,10 @@ fn add_from<K: Keeper>(
 ) -> Result<(), KeeperFault>
     requires { first + prints ≤ most_u32 }
     ensures ok { OnOk result
-        ((K.state keeper.new).tables ≡ option_map (with_prints first prints) (K.state keeper.old).tables) }
-    ensures err { OnErr result (AddsFrom first prints (K.state keeper.old).tables (K.state keeper.new).tables) }
+        ((K.state keeper.new).tables
+        ≡ option_map (with_prints first prints) (K.state keeper.old).tables) }
+    ensures err { OnErr result
+        (AddsFrom first prints (K.state keeper.old).tables (K.state keeper.new).tables) }
     ensures counts { Counts (IsErrOf result fault.Failed)
         (K.state keeper.old).faults (K.state keeper.new).faults }
     ensures steady { (IsErrOf result fault.Failed → ⊥)
@@ -89,7 +91,8 @@ pub fn add_prints<K: Keeper>(alloc: Global, keeper: &mut K, prints: u32) -> Tool
         → IfSome (K.state keeper.old).tables (λ t. most_u32 < length t.prints + 1 + prints) }
     ensures counts { Counts (result ≡ end.KeeperFailed)
         (K.state keeper.old).faults (K.state keeper.new).faults }
-    ensures steady { result ≢ end.KeeperFailed → (K.state keeper.new).faults ≡ (K.state keeper.old).faults }
+    ensures steady { result ≢ end.KeeperFailed → (K.state keeper.new).faults
+        ≡ (K.state keeper.old).faults }
 {
     let tables = match keeper.load(alloc) {
         Ok(tables) => tables,

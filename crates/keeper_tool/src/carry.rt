@@ -23,11 +23,13 @@ fn show<K: Keeper, O: Sink>(alloc: Global, keeper: &mut K, out: &mut O) -> ToolE
         (λ t. Adds (O.written out.old) (O.written out.new) (tables_text t)) }
     ensures only { (n : ℕ) → result ≢ end.Added n }
     ensures kind { is_showing result ≡ true }
-    ensures wrote { Wrote (K.state keeper.old).tables result (O.written out.old) (O.written out.new) }
+    ensures wrote { Wrote (K.state keeper.old).tables result (O.written out.old)
+        (O.written out.new) }
     ensures stays { (K.state keeper.new).tables ≡ (K.state keeper.old).tables }
     ensures counts { Counts (result ≡ end.KeeperFailed)
         (K.state keeper.old).faults (K.state keeper.new).faults }
-    ensures steady { result ≢ end.KeeperFailed → (K.state keeper.new).faults ≡ (K.state keeper.old).faults }
+    ensures steady { result ≢ end.KeeperFailed → (K.state keeper.new).faults
+        ≡ (K.state keeper.old).faults }
     ensures output { Counts (result ≡ end.OutputFailed) (O.faults out.old) (O.faults out.new) }
 {
     let tables = match keeper.load(alloc) {
@@ -62,12 +64,14 @@ pub fn carry_out<K: Keeper, O: Sink>(
     ensures kind { may_end task result ≡ true }
     ensures numbers { (n : ℕ) → task ≡ todo.Add n → result ≡ end.NumbersUsed
         → IfSome (K.state keeper.old).tables (λ t. most_u32 < length t.prints + 1 + n) }
-    ensures wrote { Wrote (K.state keeper.old).tables result (O.written out.old) (O.written out.new) }
+    ensures wrote { Wrote (K.state keeper.old).tables result (O.written out.old)
+        (O.written out.new) }
 
     // Faults, by their counts.
     ensures counts { Counts (result ≡ end.KeeperFailed)
         (K.state keeper.old).faults (K.state keeper.new).faults }
-    ensures steady { result ≢ end.KeeperFailed → (K.state keeper.new).faults ≡ (K.state keeper.old).faults }
+    ensures steady { result ≢ end.KeeperFailed → (K.state keeper.new).faults
+        ≡ (K.state keeper.old).faults }
     ensures output { Counts (result ≡ end.OutputFailed) (O.faults out.old) (O.faults out.new) }
 {
     match task {

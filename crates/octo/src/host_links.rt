@@ -4,10 +4,9 @@ ghost use Rattle.std.specs.Prelude.{◌≡◌, false};
 use crate::host_log::HostLog;
 use crate::showing::{PrintView, UNSEEN, with_progress};
 use octo_floor::Links;
-use octo_log_link::LoggedLink;
+use octo_log_link::{LoggedLink, ProgressLink};
 use octo_outside::SystemClock;
 use octo_outside_bell::Ear;
-use octo_progress::ProgressLink;
 use printer_link_ports::SystemPorts;
 use printer_link_socket::PortLink;
 

@@ -3,8 +3,8 @@ ghost use Rattle.std.specs.Prelude.{◌≡◌};
 
 use crate::host_log::HostLog;
 use octo_files::{Report, check_file};
+use octo_log_link::{ProgressLink, Showing};
 use octo_outside::{FileSource, SystemClock, WordList};
-use octo_progress::{ProgressLink, Showing};
 use octo_words::{Command, FilePath, asks_progress, read_words};
 use printer_link::Link;
 use std::io::IsTerminal;

@@ -1,4 +1,4 @@
--- The words of a worker's contracts.
 pub mod Origins
+pub mod Pages
 pub mod Served
 pub mod Worked

@@ -21,8 +21,8 @@ use Rattle.octo_asks.specs.declared.request.Ask.{Ask}
 use Rattle.octo_asks.specs.declared.request.Request.TheVariants as request
 use Rattle.octo_asks.specs.declared.entry.Entry.TheVariants as entry
 use Rattle.octo_asks.specs.History.{History}
-use Rattle.octo_api_page.specs.declared.page.Page.{Page}
-use Rattle.octo_api_page.specs.Pages.{page_of, page_bytes}
+use Rattle.octo_api_worker.specs.declared.page.Page.{Page}
+use Rattle.octo_api_worker.specs.Pages.{page_of, page_bytes}
 use Rattle.octo_api_routes.specs.declared.direct.Direct.{Direct}
 use Rattle.octo_api_routes.specs.declared.shown.Shown.{Shown}
 use Rattle.octo_api_routes.specs.declared.shown.Shown.TheVariants.{Whole}

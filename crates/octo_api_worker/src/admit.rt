@@ -111,7 +111,8 @@ fn ask_whom<A: Asker>(
 ) -> Option<Replied>
     ensures known { IfNone result ((head : Head) → needs_key head ≡ true
         → ask ≡ whom_ask head.key
-        → (first : History) × Admits head first × Adds (A.state asker.old).mine (A.state asker.new).mine first) }
+        → (first : History) × Admits head first
+        × Adds (A.state asker.old).mine (A.state asker.new).mine first) }
     ensures turned { IfSome result (λ replied. (origins : List (List ℕ)) → (head : Head)
         → origin.now ≡ listed origins head.origin → needs_key head ≡ true → ask ≡ whom_ask head.key
         → (calls : History)

@@ -41,13 +41,15 @@ fn look_at_door<D: Door, A: Asker, P: Stager>(
     terms: &Terms,
 ) -> Visit
     ensures visited { (inputs : List (List ℕ)) → (D.state door.old).coming ≡ Some inputs
-        → HasVisited terms.now inputs (D.state door.new).coming (D.state door.old).served (D.state door.new).served
+        → HasVisited terms.now inputs (D.state door.new).coming (D.state door.old).served
+        (D.state door.new).served
         (A.state asker.old).mine (A.state asker.new).mine result }
     ensures once { AsksOnce (A.state asker.old).mine (A.state asker.new).mine }
     ensures closed { result ≡ visit.Closed → (A.state asker.new).saw_close ≡ true }
     ensures place { (A.state asker.new).place ≡ (A.state asker.old).place }
     ensures held { result ≢ visit.Failed → (D.state door.new).faults ≡ (D.state door.old).faults }
-    ensures failed { result ≡ visit.Failed → Rose (D.state door.old).faults (D.state door.new).faults }
+    ensures failed { result ≡ visit.Failed
+        → Rose (D.state door.old).faults (D.state door.new).faults }
 {
     if asker.closed() {
         return Visit::Closed;
@@ -101,7 +103,8 @@ fn leave_ask(alloc: Global) -> Ask
 
 // Says that this worker leaves. The answer doesn't matter; without one the host has ended.
 fn leave<A: Asker>(alloc: Global, asker: &mut A)
-    ensures left { HasLeft (A.state asker.old).mine (A.state asker.new).mine (A.state asker.new).saw_close }
+    ensures left { HasLeft (A.state asker.old).mine (A.state asker.new).mine
+        (A.state asker.new).saw_close }
     ensures seen { (A.state asker.old).saw_close ≡ true → (A.state asker.new).saw_close ≡ true }
     ensures place { (A.state asker.new).place ≡ (A.state asker.old).place }
 {
@@ -123,7 +126,8 @@ pub fn worker<R: Wait, D: Door, A: Asker, P: Stager>(
 ) -> bool
     // The connections of a door that records them are served one after the other.
     ensures served { (inputs : List (List ℕ)) → (D.state door.old).coming ≡ Some inputs
-        → HasWorked terms.now inputs (D.state door.new).coming (D.state door.old).served (D.state door.new).served
+        → HasWorked terms.now inputs (D.state door.new).coming (D.state door.old).served
+        (D.state door.new).served
         (A.state asker.old).mine (A.state asker.new).mine (A.state asker.new).saw_close result }
     ensures place { (A.state asker.new).place ≡ (A.state asker.old).place }
 

@@ -6,14 +6,14 @@ ghost use Rattle.octo_api_requests.specs.Requests.{MessageReadsAs};
 ghost use Rattle.octo_api_requests.specs.Callers.{IsCallers};
 ghost use Rattle.octo_asks.specs.History.{History};
 ghost use Rattle.octo_api_routes.specs.Shown.{shown_of};
-ghost use Rattle.octo_api_page.specs.Pages.{page_of};
+ghost use Rattle.octo_api_worker.specs.Pages.{page_of};
 ghost use Rattle.octo_api_worker.specs.Origins.{listed};
 ghost use Rattle.octo_api_worker.specs.Served.{IsReply, IsOfApi, IsReplied};
 
 use crate::origins::{direct_lines, listed, origin_lines};
+use crate::page::{Page, page_of};
 use crate::staging::ask_staged;
 use byte_text::Name;
-use octo_api_page::{Page, page_of};
 use octo_api_refusals::{direct_bytes, out_of_memory};
 use octo_api_replies::shown_bytes;
 use octo_api_requests::request_by;
@@ -169,7 +169,8 @@ pub(crate) fn reply_to_message<A: Asker, P: Stager>(
     stager: &mut P,
     message: Message,
 ) -> Replied
-    ensures replied { (calls : History) × Adds (A.state asker.old).mine (A.state asker.new).mine calls
+    ensures replied { (calls : History)
+        × Adds (A.state asker.old).mine (A.state asker.new).mine calls
         × IsReplied origins.now message result.reply result.is_open calls }
     ensures closed { result.is_open ≡ false → (A.state asker.new).saw_close ≡ true }
     ensures seen { (A.state asker.old).saw_close ≡ true → (A.state asker.new).saw_close ≡ true }

@@ -6,10 +6,10 @@ ghost use Rattle.octo_asks.specs.History.{History};
 ghost use Rattle.octo_api_worker.specs.Served.{Sends, Admits, IsServed, HasBegun, HasServed, AsksForMessage, AsksOnce, AreFaultBytes, is_head, worker_bytes};
 
 use crate::admit::turn_away;
+use crate::page::page_bytes;
 use crate::reply::{WorkerReply, reply_to_message};
 use crate::terms::Terms;
 use http::Method;
-use octo_api_page::page_bytes;
 use octo_api_refusals::fault_bytes;
 use octo_api_routes::Routes;
 use octo_asks::Asker;
@@ -70,7 +70,8 @@ fn is_head(method: &Method) -> bool
 
 // Writes the reply of the REST API.
 fn write_api_reply<C: Conn>(conn: &mut C, reply: &HttpReply, more: &FieldLines, head_alone: bool)
-    ensures written { Sends (C.state conn.old).written (C.state conn.new).written (C.state conn.old).faults
+    ensures written { Sends (C.state conn.old).written (C.state conn.new).written
+        (C.state conn.old).faults
         (C.state conn.new).faults (worker_bytes head_alone (WorkerReply.Api reply.now more.now)) }
     ensures left { (C.state conn.new).left ≡ (C.state conn.old).left }
     ensures quiets { (C.state conn.new).quiets ≡ (C.state conn.old).quiets }

@@ -2,18 +2,18 @@
 use Rattle.std.proofs.Common.{◌≡◌, ◌≢◌, ℕ, Bool, true, false, cond, List, Option, None, Some, refl, sym, ◌∙◌, ap, subst, arith}
 use Rattle.std.specs.Prelude.{option_and_then}
 use Rattle.std.proofs.lemmas.Option.{same_Some}
-use Rattle.hand_over.specs.Ends.{HistoryData}
+use Rattle.octo_serve.specs.Ends.{HistoryData}
 use Rattle.octo_outside.specs.Recorded.{Rose}
 use Rattle.octo_outside.specs.Traits.{Files}
 use Rattle.octo_files.specs.Settings.{is_settings_refusal}
 use Rattle.octo_files.specs.declared.report.Report.{Report}
 use Rattle.octo_files.specs.declared.report.Report.TheVariants as report
-use Rattle.octo_floor_report.specs.Reports.{is_clean, why_code}
-use Rattle.octo_floor_round_proof.specs.Floor.{FloorData}
-use Rattle.octo_floor_rules.specs.declared.end.FloorEnd.{FloorEnd}
-use Rattle.octo_floor_rules.specs.declared.end.FloorFault.TheVariants as fault
-use Rattle.octo_floor_rules.specs.declared.end.Why.{Why}
-use Rattle.octo_floor_rules.specs.declared.end.Why.TheVariants as why
+use Rattle.octo_floor_command.specs.RunReports.{is_clean, why_code}
+use Rattle.octo_floor.specs.Floor.{FloorData}
+use Rattle.octo_floor_bay.specs.declared.end.FloorEnd.{FloorEnd}
+use Rattle.octo_floor_bay.specs.declared.end.FloorFault.TheVariants as fault
+use Rattle.octo_floor_bay.specs.declared.end.Why.{Why}
+use Rattle.octo_floor_bay.specs.declared.end.Why.TheVariants as why
 use Rattle.octo_floor_command.specs.Beginning.{Around as FloorAround}
 use Rattle.octo_floor_command.specs.Reports.{floor_report_code}
 use Rattle.octo_floor_command.specs.Running.{Floors, HasFloorCauses}

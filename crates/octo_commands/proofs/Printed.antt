@@ -24,7 +24,7 @@ use Rattle.octo_commands_print.specs.Printing.{Seen, HaveJob, Reads, UseSettings
 use Rattle.octo_commands.specs.Commands.{Comes, out_of_memory, no_command, carried_out, hosted, hosted_by, IsWritten, Reports, seen_in}
 use Rattle.octo_commands.specs.Floors.{floor_in_words}
 use Rattle.octo_commands.proofs.Ended.{floor_of_command}
-use Rattle.hand_over.specs.Ends.{HistoryData}
+use Rattle.octo_serve.specs.Ends.{HistoryData}
 use Rattle.octo_serve_command.specs.Hosting.{Around}
 use Rattle.octo_serve_command.specs.Reports.{host_code}
 use Rattle.octo_serve_command.specs.declared.report.HostReport.{HostReport}

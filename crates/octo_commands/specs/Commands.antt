@@ -9,9 +9,9 @@ use Rattle.printer_model.specs.declared.oks.Oks.{Oks}
 use Rattle.send_window.specs.declared.session_end.SessionEnd.TheVariants.{NoAnswer}
 use Rattle.octo_session_print.specs.declared.end.PrintEnd.{PrintEnd}
 use Rattle.octo_session_print.specs.declared.end.PrintEnd.TheVariants as end
-use Rattle.octo_session_demo.specs.Run.{IsDemo, counts_of}
-use Rattle.octo_session_demo.specs.Summary.{summary_of}
-use Rattle.octo_session_demo.specs.declared.run.Demo.{Demo}
+use Rattle.octo_commands_print.specs.Run.{IsDemo, counts_of}
+use Rattle.octo_commands_print.specs.Summary.{summary_of}
+use Rattle.octo_commands_print.specs.declared.run.Demo.{Demo}
 use Rattle.octo_settings.specs.declared.settings.Settings.{Settings}
 use Rattle.octo_words.specs.Words.{command_of}
 use Rattle.octo_words.specs.declared.command.Command.{Command}
@@ -25,7 +25,7 @@ use Rattle.octo_files.specs.Measures.{measure_report, IsRestReport}
 use Rattle.octo_files.specs.Reading.{FileGives, IsTrouble}
 use Rattle.octo_files.specs.Settings.{HaveSettings}
 use Rattle.octo_commands_print.specs.Printing.{Seen, IsFilePrint, UseSettings, WaitedBySettings, over_port, seen_of, uses_link}
-use Rattle.hand_over.specs.Ends.{HistoryData}
+use Rattle.octo_serve.specs.Ends.{HistoryData}
 use Rattle.octo_serve_command.specs.Hosting.{Around, Hosts, HasHostCauses}
 use Rattle.octo_serve_command.specs.Reports.{host_code, host_text}
 use Rattle.octo_serve_command.specs.declared.report.HostReport.{HostReport}

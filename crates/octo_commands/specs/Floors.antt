@@ -6,7 +6,7 @@ use Rattle.octo_words.specs.Words.{command_of}
 use Rattle.octo_words.specs.declared.command.Command.{Command}
 use Rattle.octo_words.specs.declared.command.Command.TheVariants as command
 use Rattle.octo_files.specs.declared.report.Report.TheVariants as report
-use Rattle.octo_floor_round_proof.specs.Floor.{FloorData}
+use Rattle.octo_floor.specs.Floor.{FloorData}
 use Rattle.octo_floor_command.specs.Beginning.{Around}
 use Rattle.octo_floor_command.specs.Reports.{floor_report_code, floor_report_text}
 use Rattle.octo_floor_command.specs.Running.{Floors, HasFloorCauses}

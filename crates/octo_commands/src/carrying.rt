@@ -81,16 +81,19 @@ fn carry_out<F: Source, L: Link, T: Clock>(
     clock: &mut T,
 ) -> Report
     requires down { (L.state link.old).up ≡ false }
-    requires suits { SessionsSuit (F.files files.old) (L.state link.old).past (L.state link.old).kind.oks
+    requires suits { SessionsSuit (F.files files.old) (L.state link.old).past
+        (L.state link.old).kind.oks
         command.now }
     requires range { IsInRange command.now }
     requires plain { hosted_by command.now ≡ None }
     requires no_floor { floor_asked command.now ≡ None }
     ensures reports { Reports (L.state link.old).kind (F.files files.old)
         (seen_of (L.state link.old).past (L.state link.new).past
-        (L.state link.old).faults (L.state link.new).faults (T.moment clock.new)) command.now result }
+        (L.state link.old).faults (L.state link.new).faults (T.moment clock.new)) command.now
+        result }
     ensures causes { HasPlainCauses (F.faults files.old) (F.faults files.new)
-        (L.state link.old).faults (L.state link.new).faults (L.state link.old).calls (L.state link.new).calls result }
+        (L.state link.old).faults (L.state link.new).faults (L.state link.old).calls
+        (L.state link.new).calls result }
     ensures waited { HasWaitedFor (F.files files.old) (T.moment clock.old) (T.moment clock.new)
         command.now result }
     ensures output { code_of result ≢ 8 }
@@ -158,7 +161,8 @@ pub(crate) fn run<
     log: G,
 ) -> HostEnd
     requires down { (L.state link.old).up ≡ false }
-    requires suits { SessionsSuit (F.files files.old) (L.state link.old).past (L.state link.old).kind.oks
+    requires suits { SessionsSuit (F.files files.old) (L.state link.old).past
+        (L.state link.old).kind.oks
         command.now }
     requires range { IsInRange command.now }
     requires no_floor { floor_asked command.now ≡ None }

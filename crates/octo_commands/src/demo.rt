@@ -1,13 +1,13 @@
 //! The command `demo`.
 ghost use Rattle.std.specs.Prelude.{◌≡◌, ◌≤◌, ◌⊎◌, IfOk};
 ghost use Rattle.std.specs.Option.{option_map};
-ghost use Rattle.octo_session_demo.specs.declared.file.TheConstants.{MOST_COMMANDS};
+ghost use Rattle.octo_commands_print.specs.declared.file.TheConstants.{MOST_COMMANDS};
 ghost use Rattle.octo_files.specs.declared.report.Report.TheVariants as report;
 ghost use Rattle.octo_commands.specs.Commands.{IsOther, IsSummary, status_of};
 
+use octo_commands_print::{Demo, run_demo, summary};
 use octo_files::{FILE_REFUSED, LINK_FAILED, Report, SESSION_ENDED, SUCCESS, TURNS_USED};
 use octo_outside::{CallList, calls_of};
-use octo_session_demo::{Demo, run_demo, summary};
 use octo_session_print::PrintEnd;
 use std::alloc::{AllocError, Global};
 

@@ -10,7 +10,7 @@ ghost use Rattle.octo_floor_command.specs.Reports.{floor_report_code};
 ghost use Rattle.octo_floor_command.specs.Settings.{HaveFloorSettings};
 ghost use Rattle.octo_floor_command.specs.declared.report.FloorReport.{FloorReport};
 ghost use Rattle.octo_settings.specs.declared.floor.FloorSettings.{FloorSettings};
-ghost use Rattle.octo_floor_step.specs.Objects.{store_state};
+ghost use Rattle.octo_floor.specs.Objects.{store_state};
 ghost use Rattle.octo_serve_command.specs.Hosting.{around};
 ghost use Rattle.octo_serve_command.specs.Reports.{host_code};
 ghost use Rattle.octo_serve_command.specs.declared.report.HostReport.{HostReport};
@@ -20,14 +20,13 @@ ghost use Rattle.octo_commands.specs.Enough.{HasEnough};
 ghost use Rattle.octo_commands.specs.Floors.{FloorComes, HasAllFloorCauses, IsFloorWritten, floor_asked, floor_in_words};
 
 use crate::carrying::run;
-use hand_over::History;
 use octo_files::Report;
 use octo_floor::{Floor, Links};
-use octo_floor_command::{FloorDone, run_floor, write_floor_report};
-use octo_floor_log::FloorLog;
+use octo_floor_command::{FloorDone, FloorLog, run_floor, write_floor_report};
 use octo_keeper::{Keeper, Shelf};
 use octo_outside::{Clock, Failed, Sink, Source, WordList};
 use octo_outside_doors::{Door, Doors};
+use octo_serve::History;
 use octo_serve_command::{HostEnd, HostReport, write_host_report};
 use octo_words::{Command, WordsFault, read_words};
 use printer_link::Link;
@@ -153,7 +152,8 @@ pub fn octo<
     requires links_down { EachLink (λ l. (L.state l).up ≡ false) links.old }
     requires links_suit { (asked : List ℕ × ℕ) → floor_in_words words.now ≡ Some asked
         → (s : FloorSettings) → HaveFloorSettings (F.files files.old) asked.0 (Ok s)
-        → EachLink (λ l. SuitsAs s.settings.numbered_oks (L.state l).past (L.state l).kind.oks) links.old }
+        → EachLink (λ l. SuitsAs s.settings.numbered_oks (L.state l).past (L.state l).kind.oks)
+        links.old }
 
     // Arguments that ask for no floor come to a report `r`, and each failure in it has its cause. It is written, or the output
     // failed. `at` is what link, clock, keeper, shelf and doors show.
@@ -175,11 +175,15 @@ pub fn octo<
     // `at` is what links, keeper and shelf show.
     ensures floors { (asked : List ℕ × ℕ) → floor_in_words words.now ≡ Some asked
         → (r : FloorReport) × FloorComes (F.files files.old) asked
-        (around_floor (link_states L.state links.old) (store_state (K.state keeper.old) (S.state shelf.old)))
-        (around_floor (link_states L.state links.new) (store_state (K.state keeper.new) (S.state shelf.new))) r result.floor
+        (around_floor (link_states L.state links.old)
+        (store_state (K.state keeper.old) (S.state shelf.old)))
+        (around_floor (link_states L.state links.new)
+        (store_state (K.state keeper.new) (S.state shelf.new))) r result.floor
         × HasAllFloorCauses (F.faults files.old) (F.faults files.new)
-        (around_floor (link_states L.state links.old) (store_state (K.state keeper.old) (S.state shelf.old)))
-        (around_floor (link_states L.state links.new) (store_state (K.state keeper.new) (S.state shelf.new))) r
+        (around_floor (link_states L.state links.old)
+        (store_state (K.state keeper.old) (S.state shelf.old)))
+        (around_floor (link_states L.state links.new)
+        (store_state (K.state keeper.new) (S.state shelf.new))) r
         × IsFloorWritten r result.code (O.written out.old) (O.written out.new) }
     ensures floor_alone { (asked : List ℕ × ℕ) → floor_in_words words.now ≡ Some asked
         → (link.new ≡ link.old) × (doors.new ≡ doors.old) × (result.history ≡ None) }

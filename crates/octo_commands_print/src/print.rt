@@ -57,13 +57,15 @@ fn print_job<L: Link, T: Clock>(
     turns: u64,
 ) -> Report
     requires down { (L.state link.old).up ≡ false }
-    requires suits { SuitsAs settings.numbered_oks (L.state link.old).past (L.state link.old).kind.oks }
+    requires suits { SuitsAs settings.numbered_oks (L.state link.old).past
+        (L.state link.old).kind.oks }
     requires sound { IsSettings settings }
     requires cool { first_hot_of settings.limits job.commands ≡ None }
 
     // The result.
     ensures run { IsRefused (seen_of (L.state link.old).past (L.state link.new).past
-        (L.state link.old).faults (L.state link.new).faults (T.moment clock.new)) result report.NoMemory
+        (L.state link.old).faults (L.state link.new).faults (T.moment clock.new)) result
+        report.NoMemory
         ⊎ IsRun (L.state link.old).kind settings job (over_port port.now turns)
         (seen_of (L.state link.old).past (L.state link.new).past
         (L.state link.old).faults (L.state link.new).faults (T.moment clock.new)) result }
@@ -71,7 +73,8 @@ fn print_job<L: Link, T: Clock>(
     // The link.
     ensures down { (L.state link.new).up ≡ false }
     ensures kind { (L.state link.new).kind ≡ (L.state link.old).kind }
-    ensures counts { Counts (result ≡ report.LinkFailed) (L.state link.old).faults (L.state link.new).faults }
+    ensures counts { Counts (result ≡ report.LinkFailed) (L.state link.old).faults
+        (L.state link.new).faults }
     ensures used { (made : ℕ) → result ≡ report.TurnsUsed made
         → RoseBy turns (L.state link.old).calls (L.state link.new).calls }
     ensures source { result ≢ report.SourceFailed }
@@ -143,7 +146,8 @@ pub fn print_file<F: Source, L: Link, T: Clock>(
     // The link.
     ensures down { (L.state link.new).up ≡ false }
     ensures kind { (L.state link.new).kind ≡ (L.state link.old).kind }
-    ensures link { Counts (result ≡ report.LinkFailed) (L.state link.old).faults (L.state link.new).faults }
+    ensures link { Counts (result ≡ report.LinkFailed) (L.state link.old).faults
+        (L.state link.new).faults }
     ensures used { (made : ℕ) → result ≡ report.TurnsUsed made
         → RoseBy turns (L.state link.old).calls (L.state link.new).calls }
 

@@ -1,5 +1,5 @@
 -- A floor's fields, seen as plain data.
-use Rattle.octo_floor_round_proof.specs.Floor.{FloorData, IsFloor}
+use Rattle.octo_floor.specs.Floor.{FloorData, IsFloor}
 use Rattle.octo_floor.specs.declared.floor.Floor.TheInside.{Inside}
 
 -- the data that the fields hold

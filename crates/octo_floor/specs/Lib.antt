@@ -1,2 +1,15 @@
+pub mod Counted
 pub mod Fields
+pub mod Floor
+pub mod Leaving
+pub mod Ledger
+pub mod LedgerFields
 pub mod Links
+pub mod Objects
+pub mod Phases
+pub mod Points
+pub mod Round
+pub mod Rounds
+pub mod Run
+pub mod Step
+pub mod Tables

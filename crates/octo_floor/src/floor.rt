@@ -3,12 +3,12 @@ ghost use Rattle.std.specs.Prelude.{◌≡◌, ◌≤◌, length, map, All, IfOk
 ghost use Rattle.octo_keeper.specs.Tables.{AreNumbered};
 ghost use Rattle.octo_keeper.specs.declared.tables.Tables.{Tables};
 ghost use Rattle.octo_floor_bay.specs.Bay.{IsNewSession};
-ghost use Rattle.octo_floor_round_proof.specs.Floor.{AreFresh, new_bay, new_floor};
-ghost use Rattle.octo_floor_round_proof.specs.Tables.{AreKeptSince};
+ghost use Rattle.octo_floor.specs.Floor.{AreFresh, new_bay, new_floor};
+ghost use Rattle.octo_floor.specs.Tables.{AreKeptSince};
 
+use crate::ledger::Ledger;
 use byte_text::Name;
 use octo_floor_bay::Bay;
-use octo_floor_step::Ledger;
 use octo_outside::{ItemList, NameList};
 use octo_session::Session;
 use print_queue::{PrintList, Queue};
@@ -30,7 +30,7 @@ pub struct Floor {
 }
 
 impl Model for Floor {
-    ghost use Rattle.octo_floor_round_proof.specs.Floor.{FloorData};
+    ghost use Rattle.octo_floor.specs.Floor.{FloorData};
 
     ghost Value = { FloorData };
 

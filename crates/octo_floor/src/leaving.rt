@@ -2,14 +2,13 @@
 ghost use Rattle.std.specs.Prelude.{◌≡◌, ◌<◌, ℕ, List, true, false, length, slice_get, Some};
 ghost use Rattle.job_desk.specs.declared.state.State.TheVariants as state;
 ghost use Rattle.octo_floor_bay.specs.Bay.{BayData};
-ghost use Rattle.octo_floor_round_proof.specs.Floor.{IsFloor};
-ghost use Rattle.octo_floor_run_proof.specs.Leaving.{IsIdle, AreIdle, IsDisconnected, IsDisconnectedAt, AreDisconnected};
-ghost use Rattle.octo_floor_run_proof.specs.Run.{AreNumbersOf, HaveLeft, is_lost, has_left};
+ghost use Rattle.octo_floor.specs.Floor.{IsFloor};
+ghost use Rattle.octo_floor.specs.Leaving.{IsIdle, AreIdle, IsDisconnected, IsDisconnectedAt, AreDisconnected};
+ghost use Rattle.octo_floor.specs.Run.{AreNumbersOf, HaveLeft, is_lost, has_left};
 
 use crate::floor::Floor;
 use job_desk::State;
-use octo_floor_bay::Bay;
-use octo_floor_rules::{FloorEnd, Why};
+use octo_floor_bay::{Bay, FloorEnd, Why};
 
 // Whether a printer is lost.
 fn is_lost(bay: &Bay) -> bool

@@ -1,17 +1,17 @@
 //! A round of a floor.
 ghost use Rattle.std.specs.Prelude.{◌≡◌, ◌≢◌, [], None, Some, AllPairs};
-ghost use Rattle.octo_floor_rules.specs.Events.{started_rows};
-ghost use Rattle.octo_floor_rules.specs.declared.end.FloorFault.{FloorFault};
-ghost use Rattle.octo_floor_step.specs.Objects.{store_state};
-ghost use Rattle.octo_floor_round_proof.specs.Floor.{setting, AreUp};
+ghost use Rattle.octo_floor_bay.specs.Events.{started_rows};
+ghost use Rattle.octo_floor_bay.specs.declared.end.FloorFault.{FloorFault};
+ghost use Rattle.octo_floor.specs.Objects.{store_state};
+ghost use Rattle.octo_floor.specs.Floor.{setting, AreUp};
 ghost use Rattle.octo_floor.specs.Links.{link_states};
-ghost use Rattle.octo_floor_round_proof.specs.Points.{GoesOn, LeavesIdle};
-ghost use Rattle.octo_floor_round_proof.specs.Round.{IsRound};
+ghost use Rattle.octo_floor.specs.Points.{GoesOn, LeavesIdle};
+ghost use Rattle.octo_floor.specs.Round.{IsRound};
 
 use crate::floor::Floor;
+use crate::ledger::EventList;
 use crate::links::Links;
-use octo_floor_rules::FloorFault;
-use octo_floor_step::EventList;
+use octo_floor_bay::FloorFault;
 use octo_keeper::{Keeper, Shelf};
 use printer_link::Link;
 
@@ -36,8 +36,10 @@ impl Floor {
         requires up { AreUp self.old.bays (link_states L.state links.old) }
         requires empty { events.old.items ≡ [] }
         ensures round { IsRound moment
-            (setting self.old (link_states L.state links.old) (store_state (K.state keeper.old) (S.state shelf.old)))
-            (setting self.new (link_states L.state links.new) (store_state (K.state keeper.new) (S.state shelf.new)))
+            (setting self.old (link_states L.state links.old)
+            (store_state (K.state keeper.old) (S.state shelf.old)))
+            (setting self.new (link_states L.state links.new)
+            (store_state (K.state keeper.new) (S.state shelf.new)))
             result events.new.items }
     {
         let mut heard = false;
@@ -62,18 +64,24 @@ impl Floor {
 
         // Each printer's part, one after the other.
         ensures round { IsRound moment
-            (setting self.old (link_states L.state links.old) (store_state (K.state keeper.old) (S.state shelf.old)))
-            (setting self.new (link_states L.state links.new) (store_state (K.state keeper.new) (S.state shelf.new)))
+            (setting self.old (link_states L.state links.old)
+            (store_state (K.state keeper.old) (S.state shelf.old)))
+            (setting self.new (link_states L.state links.new)
+            (store_state (K.state keeper.new) (S.state shelf.new)))
             result.heard result.events.items }
 
         // So the copies and the records are counted, the tables are kept, and each printer does what its events say.
         ensures goes { GoesOn
-            (setting self.old (link_states L.state links.old) (store_state (K.state keeper.old) (S.state shelf.old)))
-            (setting self.new (link_states L.state links.new) (store_state (K.state keeper.new) (S.state shelf.new)))
+            (setting self.old (link_states L.state links.old)
+            (store_state (K.state keeper.old) (S.state shelf.old)))
+            (setting self.new (link_states L.state links.new)
+            (store_state (K.state keeper.new) (S.state shelf.new)))
             result.events.items }
         ensures idle { LeavesIdle
-            (setting self.old (link_states L.state links.old) (store_state (K.state keeper.old) (S.state shelf.old)))
-            (setting self.new (link_states L.state links.new) (store_state (K.state keeper.new) (S.state shelf.new)))
+            (setting self.old (link_states L.state links.old)
+            (store_state (K.state keeper.old) (S.state shelf.old)))
+            (setting self.new (link_states L.state links.new)
+            (store_state (K.state keeper.new) (S.state shelf.new)))
             result.events.items }
         ensures numbers { AllPairs (λ a b. a.number ≢ b.number)
             (started_rows self.new.ledger.history) }

@@ -1,20 +1,20 @@
 //! Runs of a floor.
 ghost use Rattle.std.specs.Prelude.{◌≡◌, ◌≢◌, AllPairs};
-ghost use Rattle.octo_floor_rules.specs.Events.{FloorHistory, started_rows};
-ghost use Rattle.octo_floor_rules.specs.declared.end.Why.TheVariants as why;
-ghost use Rattle.octo_floor_step.specs.Objects.{store_state};
-ghost use Rattle.octo_floor_round_proof.specs.Floor.{setting, AreUp};
+ghost use Rattle.octo_floor_bay.specs.Events.{FloorHistory, started_rows};
+ghost use Rattle.octo_floor_bay.specs.declared.end.Why.TheVariants as why;
+ghost use Rattle.octo_floor.specs.Objects.{store_state};
+ghost use Rattle.octo_floor.specs.Floor.{setting, AreUp};
 ghost use Rattle.octo_floor.specs.Links.{link_states};
-ghost use Rattle.octo_floor_run_proof.specs.Leaving.{Leaves};
-ghost use Rattle.octo_floor_run_proof.specs.Rounds.{HasRounds};
-ghost use Rattle.octo_floor_round_proof.specs.Points.{GoesOn};
-ghost use Rattle.octo_floor_run_proof.specs.Run.{AreCalled, AreNumbersOf, EndsFor, reason_of, run_begun};
+ghost use Rattle.octo_floor.specs.Leaving.{Leaves};
+ghost use Rattle.octo_floor.specs.Rounds.{HasRounds};
+ghost use Rattle.octo_floor.specs.Points.{GoesOn};
+ghost use Rattle.octo_floor.specs.Run.{AreCalled, AreNumbersOf, EndsFor, reason_of, run_begun};
 
 use crate::floor::Floor;
+use crate::ledger::EventList;
 use crate::links::Links;
 use crate::watch::Watch;
-use octo_floor_rules::{FloorEnd, Why};
-use octo_floor_step::EventList;
+use octo_floor_bay::{FloorEnd, Why};
 use octo_keeper::{Keeper, Shelf};
 use octo_outside::Clock;
 use printer_link::Link;
@@ -62,7 +62,8 @@ impl Floor {
         ensures goes { (events : FloorHistory) × GoesOn
             (run_begun (setting self.old (link_states L.state links.old)
             (store_state (K.state keeper.old) (S.state shelf.old))))
-            (setting self.new (link_states L.state links.new) (store_state (K.state keeper.new) (S.state shelf.new))) events }
+            (setting self.new (link_states L.state links.new)
+            (store_state (K.state keeper.new) (S.state shelf.new))) events }
         ensures records { AllPairs (λ a b. a.number ≢ b.number)
             (started_rows self.new.ledger.history) }
 
@@ -70,7 +71,8 @@ impl Floor {
         ensures rounds { HasRounds turns
             (run_begun (setting self.old (link_states L.state links.old)
             (store_state (K.state keeper.old) (S.state shelf.old))))
-            (setting self.new (link_states L.state links.new) (store_state (K.state keeper.new) (S.state shelf.new)))
+            (setting self.new (link_states L.state links.new)
+            (store_state (K.state keeper.new) (S.state shelf.new)))
             result.why }
 
         // What it returns.

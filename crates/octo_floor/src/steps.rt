@@ -1,17 +1,17 @@
 //! One printer's part of a round of a floor.
 ghost use Rattle.std.specs.Prelude.{◌≡◌, ◌<◌, ◌≤◌, ◌+◌, ◌++◌, length, Some, slice_get};
 ghost use Rattle.octo_floor_bay.specs.Bay.{BayData};
-ghost use Rattle.octo_floor_rules.specs.Events.{FloorHistory};
-ghost use Rattle.octo_floor_step.specs.Objects.{store_state};
-ghost use Rattle.octo_floor_round_proof.specs.Floor.{setting, AreUp};
+ghost use Rattle.octo_floor_bay.specs.Events.{FloorHistory};
+ghost use Rattle.octo_floor.specs.Objects.{store_state};
+ghost use Rattle.octo_floor.specs.Floor.{setting, AreUp};
 ghost use Rattle.octo_floor.specs.Links.{link_states};
-ghost use Rattle.octo_floor_round_proof.specs.Round.{IsDialled, IsStepOver, IsStepAt};
+ghost use Rattle.octo_floor.specs.Round.{IsDialled, IsStepOver, IsStepAt};
 
 use crate::floor::Floor;
+use crate::ledger::EventList;
 use crate::links::{Links, MOST_LINKS};
 use byte_text::Name;
 use octo_floor_bay::Bay;
-use octo_floor_step::EventList;
 use octo_keeper::{Keeper, Shelf};
 use printer_link::Link;
 
@@ -78,8 +78,10 @@ impl Floor {
         requires room { length events.old.items ≤ 21 }
         ensures step { (added : FloorHistory) × (events.new.items ≡ events.old.items ++ added)
             × IsStepAt printer moment
-            (setting self.old (link_states L.state links.old) (store_state (K.state keeper.old) (S.state shelf.old)))
-            (setting self.new (link_states L.state links.new) (store_state (K.state keeper.new) (S.state shelf.new)))
+            (setting self.old (link_states L.state links.old)
+            (store_state (K.state keeper.old) (S.state shelf.old)))
+            (setting self.new (link_states L.state links.new)
+            (store_state (K.state keeper.new) (S.state shelf.new)))
             result added }
         ensures few { length events.new.items ≤ length events.old.items + 3 }
     {

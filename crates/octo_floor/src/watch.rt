@@ -1,6 +1,6 @@
 //! What watches a floor while it runs.
 use byte_text::Name;
-use octo_floor_rules::FloorEvent;
+use octo_floor_bay::FloorEvent;
 
 /// What is shown the events of each round of a run. It changes nothing of the run.
 pub trait Watch {

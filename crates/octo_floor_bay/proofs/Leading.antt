@@ -6,9 +6,9 @@ use Rattle.temp_rules.specs.declared.limits.Limits.{Limits}
 use Rattle.gcode_lines.specs.Job.{JobData}
 use Rattle.job_desk.specs.Run.{DeskCall}
 use Rattle.octo_house_rules.specs.Desk.{desk_after_all}
-use Rattle.octo_floor_print_proof.specs.Desk.{DeskEntry, AreEntered, MayEnter, entries_in, desk_calls_in}
-use Rattle.octo_floor_print_proof.proofs.Lives.{entries-append}
-use Rattle.octo_floor_print_proof.proofs.Longer.{entered_more, led_more, scripts_stay}
+use Rattle.octo_floor_bay.specs.Desk.{DeskEntry, AreEntered, MayEnter, entries_in, desk_calls_in}
+use Rattle.octo_floor_bay.proofs.Lives.{entries-append}
+use Rattle.octo_floor_bay.proofs.Longer.{entered_more, led_more, scripts_stay}
 use Rattle.octo_session.specs.Data.{SessionData}
 use Rattle.octo_floor_bay.specs.Bay.{BayData, IsBay, first_desk, after_deed}
 use Rattle.octo_floor_bay.specs.Deeds.{calls_at, entry_at, desk_entry, desk_entries, history_in}

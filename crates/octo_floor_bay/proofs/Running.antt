@@ -28,9 +28,9 @@ use Rattle.octo_session.proofs.Endings.{pulls_go}
 use Rattle.octo_house_rules.specs.Desk.{desk_after_all}
 use Rattle.octo_house_rules.specs.Noted.{last_call}
 use Rattle.octo_house_rules.specs.Outcomes.{outcome_of}
-use Rattle.octo_house_print_proof.proofs.Histories.{run_append}
-use Rattle.octo_house_print_proof.proofs.Plain.{desk_calls}
-use Rattle.octo_floor_print_proof.specs.Desk.{DeskEntry, desk_calls_in, run_over}
+use Rattle.octo_house_run_proof.proofs.Histories.{run_append}
+use Rattle.octo_house_run_proof.proofs.Plain.{desk_calls}
+use Rattle.octo_floor_bay.specs.Desk.{DeskEntry, desk_calls_in, run_over}
 use Rattle.octo_floor_bay.specs.Bay.{BayData, IsBay, RunsOn, EndsBy, first_desk, after_deed, run_in}
 use Rattle.octo_floor_bay.specs.Deeds.{calls_at, desk_entry, desk_entries}
 use Rattle.octo_floor_bay.specs.declared.deed.Deed.{Deed}

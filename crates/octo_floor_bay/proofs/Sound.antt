@@ -5,10 +5,10 @@ use Rattle.printer_model.specs.declared.event.WorldEvent.{WorldEvent}
 use Rattle.printer_link.specs.Link.{LinkKind}
 use Rattle.octo_asks.specs.History.{History}
 use Rattle.octo_house_rules.specs.Timeline.{past_after}
-use Rattle.octo_house_print_proof.specs.InStep.{AreInStep, TiedSoFar}
-use Rattle.octo_floor_print_proof.specs.Prints.{IsPrinterRun}
-use Rattle.octo_floor_print_proof.proofs.Between.{tied_at_last}
-use Rattle.octo_floor_print_proof.proofs.Sent.{prints_sound}
+use Rattle.octo_house_run_proof.specs.InStep.{AreInStep, TiedSoFar}
+use Rattle.octo_floor_bay.specs.LossyPrints.{IsPrinterRun}
+use Rattle.octo_floor_bay.proofs.Between.{tied_at_last}
+use Rattle.octo_floor_bay.proofs.Sent.{prints_sound}
 use Rattle.octo_floor_bay.specs.Bay.{BayData, IsBay, first_desk}
 use Rattle.octo_floor_bay.specs.Deeds.{desk_entries, history_in}
 use Rattle.octo_floor_bay.specs.Prints.{IsInStep, IsSoundOver}

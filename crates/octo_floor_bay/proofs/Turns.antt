@@ -20,8 +20,8 @@ use Rattle.octo_session.specs.declared.found.Turned.{Turned}
 use Rattle.octo_house_rules.specs.Desk.{desk_after_all}
 use Rattle.octo_house_rules.specs.Noted.{calls_of}
 use Rattle.octo_house_run_proof.proofs.Quiet.{kept_still, talked}
-use Rattle.octo_floor_print_proof.specs.Desk.{run_over}
-use Rattle.octo_floor_print_proof.proofs.Turned.{turn_leads, quiet_leads}
+use Rattle.octo_floor_bay.specs.Desk.{run_over}
+use Rattle.octo_floor_bay.proofs.Turned.{turn_leads, quiet_leads}
 use Rattle.octo_floor_bay.specs.Bay.{IsBay, IsQuietNote, AddsChange, AddsTurn, EndsBy, run_in}
 use Rattle.octo_floor_bay.specs.Deeds.{desk_entries}
 use Rattle.octo_floor_bay.specs.declared.deed.Deed.{Deed}

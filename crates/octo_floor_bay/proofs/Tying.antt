@@ -13,9 +13,9 @@ use Rattle.octo_session_line_proof.proofs.Unchanged.{turn_numbered}
 use Rattle.octo_asks.specs.History.{History}
 use Rattle.octo_house_run_proof.proofs.Quiet.{kept_still}
 use Rattle.octo_house_run_proof.proofs.Quiet as quiet
-use Rattle.octo_house_print_proof.specs.InStep.{AreCalls, InStep}
-use Rattle.octo_house_print_proof.proofs.LineRecorded.{calls_in_step, note_in_step, turn_in_step, turn_silent}
-use Rattle.octo_floor_print_proof.proofs.Turned.{turn_noted, turn_leads, quiet_noted, quiet_leads}
+use Rattle.octo_house_run_proof.specs.InStep.{AreCalls, InStep}
+use Rattle.octo_house_run_proof.proofs.LineRecorded.{calls_in_step, note_in_step, turn_in_step, turn_silent}
+use Rattle.octo_floor_bay.proofs.Turned.{turn_noted, turn_leads, quiet_noted, quiet_leads}
 use Rattle.octo_floor_bay.specs.Bay.{BayData, IsBay, IsQuietNote, AddsChange, AddsTurn, after_deed}
 use Rattle.octo_floor_bay.specs.Deeds.{entry_at, history_in}
 use Rattle.octo_floor_bay.specs.Prints.{IsInStep}

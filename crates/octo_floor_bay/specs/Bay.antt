@@ -11,7 +11,7 @@ use Rattle.octo_session.specs.Data.{SessionData}
 use Rattle.octo_house_rules.specs.Desk.{desk_after_all}
 use Rattle.octo_house_rules.specs.Outcomes.{outcome_of}
 use Rattle.octo_house_rules.specs.PrintLaws.{IsNewDesk}
-use Rattle.octo_floor_print_proof.specs.Desk.{AreEntered, desk_calls_in, run_over}
+use Rattle.octo_floor_bay.specs.Desk.{AreEntered, desk_calls_in, run_over}
 use Rattle.octo_floor_bay.specs.Deeds.{calls_at, desk_entries}
 use Rattle.octo_floor_bay.specs.declared.deed.Deed.{Deed}
 use Rattle.octo_floor_bay.specs.declared.deed.Deed.TheVariants as deed

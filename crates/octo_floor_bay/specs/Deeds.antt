@@ -7,7 +7,7 @@ use Rattle.octo_asks.specs.declared.answer.Answer.TheVariants as answer
 use Rattle.octo_asks.specs.declared.entry.Entry.{Entry}
 use Rattle.octo_asks.specs.declared.entry.Entry.TheVariants as entry
 use Rattle.octo_house_rules.specs.Noted.{calls_of}
-use Rattle.octo_floor_print_proof.specs.Desk.{DeskEntry, entries_in}
+use Rattle.octo_floor_bay.specs.Desk.{DeskEntry, entries_in}
 use Rattle.octo_floor_bay.specs.declared.deed.Deed.{Deed}
 use Rattle.octo_floor_bay.specs.declared.deed.Deed.TheVariants as deed
 

@@ -1,4 +1,13 @@
 pub mod Bay
 pub mod Deeds
+pub mod Desk
+pub mod Events
+pub mod Faults
 pub mod Fields
+pub mod Files
+pub mod Laws
+pub mod LossyPrints
 pub mod Prints
+pub mod Stock
+pub mod Told
+pub mod Written

@@ -3,8 +3,8 @@ use Rattle.std.specs.Prelude.{◌≡◌, List, [], ◌++◌, Option, Some}
 use Rattle.printer_model.specs.declared.event.WorldEvent.{WorldEvent}
 use Rattle.printer_link.specs.Link.{LinkKind}
 use Rattle.octo_house_rules.specs.Tied.{AreTied}
-use Rattle.octo_house_print_proof.specs.InStep.{InStep}
-use Rattle.octo_floor_print_proof.specs.Prints.{ArePrintsSound}
+use Rattle.octo_house_run_proof.specs.InStep.{InStep}
+use Rattle.octo_floor_bay.specs.LossyPrints.{ArePrintsSound}
 use Rattle.octo_floor_bay.specs.Bay.{BayData, first_desk}
 use Rattle.octo_floor_bay.specs.Deeds.{desk_entries, history_in}
 

@@ -20,8 +20,8 @@ ghost use Rattle.octo_floor_bay.specs.declared.deed.Deed.TheVariants as deed;
 
 use crate::Deed;
 use crate::recording::{add_start, add_turn};
+use crate::table::EventLog;
 use byte_text::Name;
-use event_log::EventLog;
 use gcode_lines::Job;
 use job_desk::Refusal;
 use octo_session::{Session, Turned};
@@ -73,8 +73,10 @@ impl Bay {
         requires { (L.state link.old).up ≡ self.old.session.up }
 
         // What the session says of its turn.
-        ensures turn { IsTurn moment (L.state link.old).kind (L.state link.old).past (L.state link.new).past
-            (L.state link.old).calls (L.state link.new).calls self.old.session self.new.session result }
+        ensures turn { IsTurn moment (L.state link.old).kind (L.state link.old).past
+            (L.state link.new).past
+            (L.state link.old).calls (L.state link.new).calls self.old.session self.new.session
+            result }
         ensures by_note { IsTurnByNote moment (L.state link.old).kind self.old.session
             self.new.session result }
         ensures active { IsActive self.old.session.desk }

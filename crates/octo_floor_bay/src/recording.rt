@@ -4,9 +4,9 @@ ghost use Rattle.octo_floor_bay.specs.Bay.{AddsChange, AddsTurn, IsQuietNote};
 ghost use Rattle.octo_floor_bay.specs.declared.deed.Deed.TheVariants as deed;
 
 use crate::Deed;
+use crate::table::EventLog;
 use arrayvec::ArrayVec;
 use byte_text::{Name, bounded_text};
-use event_log::EventLog;
 use gcode_lines::Job;
 use job_desk::{Issued, LinkFact, Note, State};
 use octo_session::Session;

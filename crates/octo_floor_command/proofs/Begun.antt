@@ -11,11 +11,11 @@ use Rattle.octo_keeper.specs.declared.tables.Tables.{Tables}
 use Rattle.print_queue.specs.declared.entry.QueueEntry.{QueueEntry}
 use Rattle.octo_floor_bay.specs.Bay.{BayData}
 use Rattle.printer_link.specs.Calls.{LinkState}
-use Rattle.octo_floor_step.specs.Phases.{offline, leaving, phase_of}
-use Rattle.octo_floor_round_proof.specs.Floor.{FloorData, AreUp, new_bay, new_floor}
-use Rattle.octo_floor_round_proof.specs.Tables.{AreKeptSince}
-use Rattle.octo_floor_round_proof.proofs.Floors.{all_at}
-use Rattle.octo_floor_run_proof.specs.Run.{IsOpen}
+use Rattle.octo_floor.specs.Phases.{offline, leaving, phase_of}
+use Rattle.octo_floor.specs.Floor.{FloorData, AreUp, new_bay, new_floor}
+use Rattle.octo_floor.specs.Tables.{AreKeptSince}
+use Rattle.octo_floor.proofs.Floors.{all_at}
+use Rattle.octo_floor.specs.Run.{IsOpen}
 use Rattle.octo_floor_command.specs.Beginning.{IsBegun, IsQueueOf, floor_sessions}
 
 -- a floor that was made on tables has begun on them

@@ -1,3 +1,4 @@
 mod Begun
 mod Configs
 mod Runs
+pub mod Saying

@@ -11,22 +11,22 @@ use Rattle.octo_settings.specs.declared.floor.FloorSettings.{FloorSettings}
 use Rattle.octo_floor_bay.specs.Bay.{BayData, IsBay}
 use Rattle.octo_floor_bay.specs.Prints.{IsInStep}
 use Rattle.octo_floor_bay.proofs.Sound.{sound_over}
-use Rattle.octo_floor_rules.specs.Events.{FloorHistory, started_rows}
-use Rattle.octo_floor_rules.specs.declared.end.FloorEnd.{FloorEnd}
-use Rattle.octo_floor_rules.specs.declared.end.FloorFault.{FloorFault}
-use Rattle.octo_floor_rules.specs.declared.end.FloorFault.TheVariants as fault
-use Rattle.octo_floor_rules.specs.declared.end.Why.{Why}
-use Rattle.octo_floor_rules.specs.declared.end.Why.TheVariants as why
+use Rattle.octo_floor_bay.specs.Events.{FloorHistory, started_rows}
+use Rattle.octo_floor_bay.specs.declared.end.FloorEnd.{FloorEnd}
+use Rattle.octo_floor_bay.specs.declared.end.FloorFault.{FloorFault}
+use Rattle.octo_floor_bay.specs.declared.end.FloorFault.TheVariants as fault
+use Rattle.octo_floor_bay.specs.declared.end.Why.{Why}
+use Rattle.octo_floor_bay.specs.declared.end.Why.TheVariants as why
 use Rattle.printer_link.specs.Calls.{LinkState}
 use Rattle.octo_floor.specs.Links.{link_states}
 use Rattle.octo_floor.specs.declared.links.Links.{Links}
-use Rattle.octo_floor_round_proof.specs.Floor.{FloorData, AreFresh, AreUp}
-use Rattle.octo_floor_round_proof.specs.Points.{GoesOn}
-use Rattle.octo_floor_round_proof.specs.Tables.{AreKept, AreKeptSince}
-use Rattle.octo_floor_round_proof.proofs.Floors.{all_at}
-use Rattle.octo_floor_round_proof.proofs.Places.{place}
-use Rattle.octo_floor_run_proof.specs.Rounds.{HasRounds}
-use Rattle.octo_floor_run_proof.specs.Run.{AreCalled, AreNumbersOf, EndsFor, run_begun}
+use Rattle.octo_floor.specs.Floor.{FloorData, AreFresh, AreUp}
+use Rattle.octo_floor.specs.Points.{GoesOn}
+use Rattle.octo_floor.specs.Tables.{AreKept, AreKeptSince}
+use Rattle.octo_floor.proofs.Floors.{all_at}
+use Rattle.octo_floor.proofs.Places.{place}
+use Rattle.octo_floor.specs.Rounds.{HasRounds}
+use Rattle.octo_floor.specs.Run.{AreCalled, AreNumbersOf, EndsFor, run_begun}
 use Rattle.octo_floor_command.specs.Beginning.{Around, floor_in, IsUnrun, IsBegun}
 use Rattle.octo_floor_command.specs.Links.{EachLink}
 use Rattle.octo_floor_command.specs.Reports.{floor_fault_report}

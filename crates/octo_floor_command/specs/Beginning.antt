@@ -10,9 +10,9 @@ use Rattle.octo_keeper.specs.Tables.{AreSound}
 use Rattle.octo_keeper.specs.declared.tables.Tables.{Tables}
 use Rattle.octo_settings.specs.declared.floor.FloorSettings.{FloorSettings}
 use Rattle.printer_link.specs.Calls.{LinkState}
-use Rattle.octo_floor_step.specs.Objects.{StoreState}
-use Rattle.octo_floor_round_proof.specs.Floor.{FloorData, Setting, setting, new_floor}
-use Rattle.octo_floor_round_proof.specs.Tables.{AreKeptSince}
+use Rattle.octo_floor.specs.Objects.{StoreState}
+use Rattle.octo_floor.specs.Floor.{FloorData, Setting, setting, new_floor}
+use Rattle.octo_floor.specs.Tables.{AreKeptSince}
 
 -- what a floor works with: its links, the first printer's first, and its keeper and shelf
 pub record Around : Type 0 where

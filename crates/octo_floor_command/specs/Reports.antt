@@ -3,9 +3,9 @@ use Rattle.std.specs.Prelude.{ℕ, List, codes}
 use Rattle.octo_files.specs.Status.{code_of}
 use Rattle.octo_files.specs.Texts.{report_text}
 use Rattle.octo_files.specs.declared.report.Report.TheVariants.{NoMemory}
-use Rattle.octo_floor_report.specs.Reports.{floor_code, floor_text}
-use Rattle.octo_floor_rules.specs.declared.end.FloorFault.{FloorFault}
-use Rattle.octo_floor_rules.specs.declared.end.FloorFault.TheVariants as fault
+use Rattle.octo_floor_command.specs.RunReports.{floor_code, floor_text}
+use Rattle.octo_floor_bay.specs.declared.end.FloorFault.{FloorFault}
+use Rattle.octo_floor_bay.specs.declared.end.FloorFault.TheVariants as fault
 use Rattle.octo_floor_command.specs.declared.report.FloorReport.{FloorReport}
 use Rattle.octo_floor_command.specs.declared.report.FloorReport.TheVariants as floor
 

@@ -8,18 +8,18 @@ use Rattle.printer_model.specs.declared.event.WorldEvent.{WorldEvent}
 use Rattle.octo_settings.specs.declared.floor.FloorSettings.{FloorSettings}
 use Rattle.octo_floor_bay.specs.Bay.{BayData}
 use Rattle.octo_floor_bay.specs.Prints.{IsSoundOver}
-use Rattle.octo_floor_rules.specs.Events.{started_rows}
-use Rattle.octo_floor_rules.specs.declared.end.FloorEnd.{FloorEnd}
-use Rattle.octo_floor_rules.specs.declared.end.FloorFault.{FloorFault}
-use Rattle.octo_floor_rules.specs.declared.end.FloorFault.TheVariants as fault
-use Rattle.octo_floor_rules.specs.declared.end.Why.{Why}
-use Rattle.octo_floor_rules.specs.declared.end.Why.TheVariants as why
+use Rattle.octo_floor_bay.specs.Events.{started_rows}
+use Rattle.octo_floor_bay.specs.declared.end.FloorEnd.{FloorEnd}
+use Rattle.octo_floor_bay.specs.declared.end.FloorFault.{FloorFault}
+use Rattle.octo_floor_bay.specs.declared.end.FloorFault.TheVariants as fault
+use Rattle.octo_floor_bay.specs.declared.end.Why.{Why}
+use Rattle.octo_floor_bay.specs.declared.end.Why.TheVariants as why
 use Rattle.printer_link.specs.Calls.{LinkState}
-use Rattle.octo_floor_round_proof.specs.Floor.{FloorData, AreUp}
-use Rattle.octo_floor_round_proof.specs.Points.{GoesOn}
-use Rattle.octo_floor_round_proof.specs.Tables.{AreKept}
-use Rattle.octo_floor_run_proof.specs.Rounds.{HasRounds}
-use Rattle.octo_floor_run_proof.specs.Run.{AreCalled, AreNumbersOf, HaveLeft, NothingToStart}
+use Rattle.octo_floor.specs.Floor.{FloorData, AreUp}
+use Rattle.octo_floor.specs.Points.{GoesOn}
+use Rattle.octo_floor.specs.Tables.{AreKept}
+use Rattle.octo_floor.specs.Rounds.{HasRounds}
+use Rattle.octo_floor.specs.Run.{AreCalled, AreNumbersOf, HaveLeft, NothingToStart}
 use Rattle.octo_floor_command.specs.Beginning.{Around, floor_in, IsUnrun, IsBegun}
 use Rattle.octo_floor_command.specs.Reports.{floor_fault_report}
 use Rattle.octo_floor_command.specs.Settings.{HaveFloorSettings}

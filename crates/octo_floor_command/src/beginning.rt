@@ -3,14 +3,14 @@ ghost use Rattle.std.specs.Prelude.{◌≡◌, Option, IfOk, IfSome, IsErrOf};
 ghost use Rattle.octo_outside.specs.Recorded.{Counts};
 ghost use Rattle.octo_keeper.specs.Tables.{AreSound};
 ghost use Rattle.octo_keeper.specs.declared.tables.Tables.{Tables};
-ghost use Rattle.octo_floor_rules.specs.declared.end.FloorFault.TheVariants as fault;
+ghost use Rattle.octo_floor_bay.specs.declared.end.FloorFault.TheVariants as fault;
 ghost use Rattle.octo_settings.specs.Sound.{IsFloorSettings};
-ghost use Rattle.octo_floor_round_proof.specs.Floor.{AreFresh};
+ghost use Rattle.octo_floor.specs.Floor.{AreFresh};
 ghost use Rattle.octo_floor_command.specs.Beginning.{IsBegun};
 
 use crate::sessions::sessions_of;
 use octo_floor::Floor;
-use octo_floor_rules::FloorFault;
+use octo_floor_bay::FloorFault;
 use octo_keeper::{Keeper, KeeperFault, Shelf, ShelfFault, Tables};
 use octo_settings::FloorSettings;
 use print_queue::Queue;

@@ -3,9 +3,9 @@ ghost use Rattle.std.specs.Prelude.{◌≡◌, OnOk, OnErr, IsErr};
 ghost use Rattle.octo_outside.specs.Recorded.{Adds, AddsPrefix, Counts};
 ghost use Rattle.octo_floor_command.specs.Reports.{floor_report_code, floor_report_text, floor_fault_report};
 
+use crate::run_report::{floor_code, write_floor_end};
 use octo_files::{Report, STORE_FAILED, write_report};
-use octo_floor_report::{floor_code, write_floor_end};
-use octo_floor_rules::{FloorEnd, FloorFault};
+use octo_floor_bay::{FloorEnd, FloorFault};
 use octo_outside::{Failed, Sink, write_all};
 
 /// How the command `floor` ended.

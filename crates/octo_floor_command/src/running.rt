@@ -7,7 +7,7 @@ ghost use Rattle.octo_floor.specs.Links.{link_states};
 ghost use Rattle.octo_floor_bay.specs.Bay.{IsBay};
 ghost use Rattle.octo_settings.specs.Sound.{IsFloorSettings};
 ghost use Rattle.octo_settings.specs.declared.floor.FloorSettings.{FloorSettings};
-ghost use Rattle.octo_floor_step.specs.Objects.{store_state};
+ghost use Rattle.octo_floor.specs.Objects.{store_state};
 ghost use Rattle.octo_outside.specs.Recorded.{Counts};
 ghost use Rattle.printer_link.specs.Suits.{SuitsAs};
 ghost use Rattle.octo_floor_command.specs.Beginning.{around};
@@ -71,14 +71,19 @@ fn run_by<L: Link + Drop, T: Clock, K: Keeper, S: Shelf, W: Watch>(
     requires sound { IsFloorSettings settings }
     requires down { EachLink (λ l. (L.state l).up ≡ false) links.old }
     requires suits { EachLink
-        (λ l. SuitsAs settings.settings.numbered_oks (L.state l).past (L.state l).kind.oks) links.old }
+        (λ l. SuitsAs settings.settings.numbered_oks (L.state l).past (L.state l).kind.oks)
+        links.old }
     ensures runs { RunsBy settings turns
-        (around (link_states L.state links.old) (store_state (K.state keeper.old) (S.state shelf.old)))
-        (around (link_states L.state links.new) (store_state (K.state keeper.new) (S.state shelf.new)))
+        (around (link_states L.state links.old)
+        (store_state (K.state keeper.old) (S.state shelf.old)))
+        (around (link_states L.state links.new)
+        (store_state (K.state keeper.new) (S.state shelf.new)))
         result.report result.floor }
     ensures causes { HasFloorCauses
-        (around (link_states L.state links.old) (store_state (K.state keeper.old) (S.state shelf.old)))
-        (around (link_states L.state links.new) (store_state (K.state keeper.new) (S.state shelf.new))) result.report }
+        (around (link_states L.state links.old)
+        (store_state (K.state keeper.old) (S.state shelf.old)))
+        (around (link_states L.state links.new)
+        (store_state (K.state keeper.new) (S.state shelf.new))) result.report }
     ensures refusal { (why : Report) → result.report ≡ floor.Command why → why ≡ report.NoMemory }
 {
     let mut floor = match begin_by(alloc, settings, keeper, shelf) {
@@ -111,16 +116,21 @@ pub fn run_floor<F: Source, L: Link + Drop, T: Clock, K: Keeper, S: Shelf, W: Wa
 ) -> FloorDone
     requires down { EachLink (λ l. (L.state l).up ≡ false) links.old }
     requires suits { (s : FloorSettings) → HaveFloorSettings (F.files files.old) settings.now (Ok s)
-        → EachLink (λ l. SuitsAs s.settings.numbered_oks (L.state l).past (L.state l).kind.oks) links.old }
+        → EachLink (λ l. SuitsAs s.settings.numbered_oks (L.state l).past (L.state l).kind.oks)
+        links.old }
 
     // Theorem Floor: what it comes to, and each failure by its cause.
     ensures floors { Floors (F.files files.old) settings.now turns
-        (around (link_states L.state links.old) (store_state (K.state keeper.old) (S.state shelf.old)))
-        (around (link_states L.state links.new) (store_state (K.state keeper.new) (S.state shelf.new)))
+        (around (link_states L.state links.old)
+        (store_state (K.state keeper.old) (S.state shelf.old)))
+        (around (link_states L.state links.new)
+        (store_state (K.state keeper.new) (S.state shelf.new)))
         result.report result.floor }
     ensures causes { HasFloorCauses
-        (around (link_states L.state links.old) (store_state (K.state keeper.old) (S.state shelf.old)))
-        (around (link_states L.state links.new) (store_state (K.state keeper.new) (S.state shelf.new))) result.report }
+        (around (link_states L.state links.old)
+        (store_state (K.state keeper.old) (S.state shelf.old)))
+        (around (link_states L.state links.new)
+        (store_state (K.state keeper.new) (S.state shelf.new))) result.report }
     ensures refusal { (why : Report) → result.report ≡ floor.Command why
         → is_settings_refusal why ≡ true }
 

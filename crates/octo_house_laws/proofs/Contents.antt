@@ -6,8 +6,8 @@ use Rattle.temp_rules.specs.declared.limits.Limits.{Limits}
 use Rattle.job_desk.specs.Data.{ScriptTexts, new_desk}
 use Rattle.octo_keeper.specs.declared.shelf.ShelfFile.{ShelfFile}
 use Rattle.octo_asks.specs.History.{History}
-use Rattle.octo_house_contents.specs.Contents.{with_files, LegalOver}
-use Rattle.octo_house_contents.proofs.Led.{each_so}
+use Rattle.octo_house_laws.specs.OverContents.{with_files, LegalOver}
+use Rattle.octo_house_laws.proofs.Led.{each_so}
 use Rattle.octo_house_rules.specs.Issued.{lines_at, issued_in}
 use Rattle.octo_house_rules.specs.Legal.{Standing, IsLegal, after_entry}
 use Rattle.octo_house_laws.specs.Calls.{IsPermittedEntry, IsEntryOnce}

@@ -4,6 +4,7 @@ pub mod Contents
 pub mod Courses
 pub mod Desk
 pub mod Hosts
+pub mod Led
 pub mod Limits
 pub mod Own
 pub mod Prints

@@ -8,7 +8,7 @@ use Rattle.octo_keeper.specs.declared.shelf.ShelfFile.{ShelfFile}
 use Rattle.octo_keeper.proofs.Numbered.{within_count}
 use Rattle.octo_asks.specs.History.{History}
 use Rattle.print_queue.specs.declared.row.PrintRow.{PrintRow}
-use Rattle.octo_house_contents.specs.Contents.{with_files, LegalOver, after_over, calls_over, run_over}
+use Rattle.octo_house_laws.specs.OverContents.{with_files, LegalOver, after_over, calls_over, run_over}
 use Rattle.octo_house_rules.specs.Desk.{desk_after_all, lines_pulled}
 use Rattle.octo_house_rules.specs.Issued.{issued_in, lines_at}
 use Rattle.octo_house_rules.specs.Legal.{Standing, after_entry}

@@ -7,7 +7,7 @@ use Rattle.octo_keeper.specs.declared.shelf.ShelfFile.{ShelfFile}
 use Rattle.octo_asks.specs.History.{History}
 use Rattle.octo_settings.specs.Sound.{IsSettings}
 use Rattle.octo_settings.specs.declared.settings.Settings.{Settings}
-use Rattle.octo_house_contents.specs.Contents.{EachOver, LegalOver, after_over, run_over}
+use Rattle.octo_house_laws.specs.OverContents.{EachOver, LegalOver, after_over, run_over}
 use Rattle.octo_house_rules.specs.Legal.{Standing}
 use Rattle.octo_house_rules.specs.Outcomes.{HasOutcome}
 use Rattle.octo_house_rules.specs.Scripts.{HasScripts}

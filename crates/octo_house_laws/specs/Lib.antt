@@ -3,4 +3,5 @@ pub mod Contents
 pub mod Courses
 pub mod Hosts
 pub mod Limits
+pub mod OverContents
 pub mod Own

@@ -1,6 +1,5 @@
-//! Further laws of whole histories of a print host: the limits of its heaters, the courses of its
-//! prints, who was denied, what callers learn of each other, and
-//! puts that were repeated.
+//! Further laws of whole histories of a print host: the limits of its heaters, the courses of its prints, who was denied, what callers
+//! learn of each other, and puts that were repeated; also over a shelf that may record nothing, as a real folder.
 #![tactic(auto)]
 
 mod laws;

@@ -8,8 +8,8 @@ use Rattle.octo_session.specs.Data.{SessionData}
 use Rattle.octo_house_rules.specs.Known.{Known}
 use Rattle.octo_house_rules.specs.Legal.{Standing}
 use Rattle.octo_house_rules.specs.Stands.{StandsAt}
-use Rattle.octo_house_contents.specs.Contents.{with_files, OnSome, WalksOver}
-use Rattle.octo_house_contents.proofs.Led.{over_of, over_then}
+use Rattle.octo_house_laws.specs.OverContents.{with_files, OnSome, WalksOver}
+use Rattle.octo_house_laws.proofs.Led.{over_of, over_then}
 use Rattle.octo_house.specs.declared.house.House.{House}
 use Rattle.octo_house.specs.State.{known_of, session_of}
 use Rattle.octo_house_run.specs.Runs.{stands_with, begins, RunIsOver, Leads, LeadsOnSome, HasRunOver, IsFresh}

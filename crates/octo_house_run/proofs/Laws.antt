@@ -6,7 +6,7 @@ use Rattle.octo_asks.specs.History.{History}
 use Rattle.job_desk.specs.Data.{Data}
 use Rattle.octo_house.specs.State.{known_of}
 use Rattle.octo_house.specs.declared.house.House.{House}
-use Rattle.octo_house_contents.specs.Contents.{LeadsOver, OnSome}
+use Rattle.octo_house_laws.specs.OverContents.{LeadsOver, OnSome}
 use Rattle.octo_house_laws.proofs.Contents.{keeps_over, every_cool_line_over}
 use Rattle.octo_house_laws.proofs.Hosts.{new_host_keeps}
 use Rattle.octo_house_laws.proofs.Prints.{new_host_keeps_prints}

@@ -7,7 +7,7 @@ use Rattle.printer_link.specs.Link.{LinkKind}
 use Rattle.octo_house_rules.specs.Legal.{Standing}
 use Rattle.octo_house_rules.specs.Tied.{TiesLines}
 use Rattle.octo_house_rules.specs.PrintLaws.{IsBeginning}
-use Rattle.octo_house_print_proof.proofs.Recorded.{recorded_keeps}
+use Rattle.octo_house_run_proof.proofs.Recorded.{recorded_keeps}
 use Rattle.octo_house.specs.State.{session_of}
 use Rattle.octo_house.specs.declared.house.House.{House}
 use Rattle.octo_house_run.specs.Runs.{HasRun, RunKeepsPrints}

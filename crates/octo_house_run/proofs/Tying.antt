@@ -14,9 +14,9 @@ use Rattle.octo_asks.specs.History.{History}
 use Rattle.octo_asks.specs.declared.entry.Entry.TheVariants as entry
 use Rattle.octo_session_line_proof.proofs.Recorded.{IsKept}
 use Rattle.octo_house_run_proof.specs.Rounds.{AsksAt, IsCallAt}
-use Rattle.octo_house_print_proof.specs.InStep.{AreCalls, InStep}
+use Rattle.octo_house_run_proof.specs.InStep.{AreCalls, InStep}
 use Rattle.octo_house_rules.specs.Tied.{TiesLines}
-use Rattle.octo_house_print_proof.proofs.LineRecorded.{calls_in_step, note_in_step, turn_in_step, turn_silent, end_ties}
+use Rattle.octo_house_run_proof.proofs.LineRecorded.{calls_in_step, note_in_step, turn_in_step, turn_silent, end_ties}
 use Rattle.octo_house_run.specs.Turns.{NotesChange, Notes}
 
 -- a turn of the link

@@ -10,7 +10,7 @@ use Rattle.octo_session.specs.Data.{SessionData}
 use Rattle.octo_house_rules.specs.Legal.{Standing, beginning}
 use Rattle.octo_house_rules.specs.Stands.{StandsAt}
 use Rattle.octo_house_rules.specs.Walks.{Walks}
-use Rattle.octo_house_contents.specs.Contents.{OnSome, WalksOver}
+use Rattle.octo_house_laws.specs.OverContents.{OnSome, WalksOver}
 use Rattle.octo_house_rules.specs.Counted.{calls_made, leaves_made, is_shut}
 use Rattle.octo_house.specs.declared.house.House.{House}
 use Rattle.octo_house.specs.State.{known_of, session_of}

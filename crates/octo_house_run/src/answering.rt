@@ -153,7 +153,8 @@ pub(crate) fn answer_next<C: Counter, K: Keeper, S: Shelf>(
         (S.state shelf.old).faults (S.state shelf.new).faults added) }
 
     // A host's own call is in it only if that was due.
-    ensures own { AsksOfWorkers (λ x. (C.state x).given) → Became (C.state counter.old).past (C.state counter.new).past
+    ensures own { AsksOfWorkers (λ x. (C.state x).given)
+        → Became (C.state counter.old).past (C.state counter.new).past
         (λ _ added. Looks moment reconnect.old reconnect.new added) }
 
     // What stays.
@@ -198,7 +199,8 @@ fn answer_ask<C: Counter, K: Keeper, S: Shelf>(
         (λ _ added. AsksAt moment (K.state keeper.old).faults (K.state keeper.new).faults
         (S.state shelf.old).faults (S.state shelf.new).faults added) }
     ensures own { (worker == own_number) ≡ false
-        → Became (C.state counter.old).past (C.state counter.new).past (λ _ added. own_moments added ≡ []) }
+        → Became (C.state counter.old).past (C.state counter.new).past (λ _ added. own_moments added
+        ≡ []) }
     ensures rest { AskLeaves (K.state keeper.old) (K.state keeper.new)
         (S.state shelf.old) (S.state shelf.new) house.old house.new }
     ensures given { (C.state counter.new).given ≡ None }

@@ -75,22 +75,28 @@ pub fn run<R: Wait, C: Counter, L: Link, T: Clock, K: Keeper, S: Shelf>(
     // What the history says of the clock and of the link.
     ensures moments { ArePassed (T.moment clock.old) (T.moment clock.new)
         (C.state counter.old).past (C.state counter.new).past }
-    ensures link_use { Shows (C.state counter.old).past (C.state counter.new).past (S.state shelf.old).files
+    ensures link_use { Shows (C.state counter.old).past (C.state counter.new).past
+        (S.state shelf.old).files
         (begins house.old)
-        (UsesLink (L.state link.old).kind.listed (L.state link.old).calls (L.state link.new).calls) }
+        (UsesLink (L.state link.old).kind.listed (L.state link.old).calls
+        (L.state link.new).calls) }
     ensures temps { Became (C.state counter.old).past (C.state counter.new).past
-        (λ _ added. NotesTemps (L.state link.old).kind (L.state link.old).past (L.state link.new).past added) }
+        (λ _ added. NotesTemps (L.state link.old).kind (L.state link.old).past
+        (L.state link.new).past added) }
 
     // What was issued in each session is tied to what the printer executed in it, after every entry.
     ensures tied { TiesLines (session_of house.old).sender.numbered (L.state link.old).kind
-        (C.state counter.old).past (C.state counter.new).past (L.state link.old).past (L.state link.new).past }
+        (C.state counter.old).past (C.state counter.new).past (L.state link.old).past
+        (L.state link.new).past }
 
     // What the printer made of each print, and what is said and sent of it.
-    ensures prints { RunKeepsPrints (L.state link.old).kind (C.state counter.old).past (C.state counter.new).past
+    ensures prints { RunKeepsPrints (L.state link.old).kind (C.state counter.old).past
+        (C.state counter.new).past
         (S.state shelf.old).files (L.state link.old).past (L.state link.new).past house.old }
 
     // When it connects by itself, at a counter whose asks have other numbers than its own calls.
-    ensures own { AsksOfWorkers (λ x. (C.state x).given) → Became (C.state counter.old).past (C.state counter.new).past
+    ensures own { AsksOfWorkers (λ x. (C.state x).given)
+        → Became (C.state counter.old).past (C.state counter.new).past
         (λ _ added. ConnectsItself connects added) }
 
     // How it came to its end.
@@ -106,7 +112,8 @@ pub fn run<R: Wait, C: Counter, L: Link, T: Clock, K: Keeper, S: Shelf>(
     // Faults, by their counts.
     ensures faults { Became (C.state counter.old).past (C.state counter.new).past
         (λ _ added. AreCounted (K.state keeper.old).faults (K.state keeper.new).faults
-        (S.state shelf.old).faults (S.state shelf.new).faults (L.state link.old).faults (L.state link.new).faults added) }
+        (S.state shelf.old).faults (S.state shelf.new).faults (L.state link.old).faults
+        (L.state link.new).faults added) }
     ensures link { (L.state link.old).faults ≤ (L.state link.new).faults }
     ensures keeper { (K.state keeper.old).faults ≤ (K.state keeper.new).faults }
     ensures shelf { (S.state shelf.old).faults ≤ (S.state shelf.new).faults }

@@ -5,7 +5,7 @@ ghost use Rattle.octo_outside.specs.Recorded.{Became};
 ghost use Rattle.octo_house_run_proof.specs.Rounds.{TurnsAt};
 ghost use Rattle.octo_house_rules.specs.Temps.{NotesTemps};
 ghost use Rattle.octo_house_tables.specs.Kept.{KeepsRows};
-ghost use Rattle.octo_house_print_proof.specs.InStep.{InStep};
+ghost use Rattle.octo_house_run_proof.specs.InStep.{InStep};
 ghost use Rattle.octo_asks.specs.History.{History};
 ghost use Rattle.printer_model.specs.declared.event.WorldEvent.{WorldEvent};
 ghost use Rattle.octo_house.specs.State.{IsListed, session_of, tables_of};
@@ -41,15 +41,19 @@ pub(crate) fn take_turn<C: Counter, L: Link, K: Keeper>(
         (λ _ added. AreOf None added) }
     ensures turns { Became (C.state counter.old).past (C.state counter.new).past
         (λ _ added. TurnsAt moment (L.state link.old).kind.listed (session_of house.old)
-        (L.state link.old).calls (L.state link.new).calls (L.state link.old).faults (L.state link.new).faults added) }
+        (L.state link.old).calls (L.state link.new).calls (L.state link.old).faults
+        (L.state link.new).faults added) }
     ensures temps { Became (C.state counter.old).past (C.state counter.new).past
-        (λ _ added. NotesTemps (L.state link.old).kind (L.state link.old).past (L.state link.new).past added) }
+        (λ _ added. NotesTemps (L.state link.old).kind (L.state link.old).past
+        (L.state link.new).past added) }
 
     // Beside the link's history.
     ensures tied { (numbered : Bool) (before : Option History) (front : Option (List WorldEvent))
-        → InStep numbered (L.state link.old).kind before (C.state counter.old).past front (L.state link.old).past
+        → InStep numbered (L.state link.old).kind before (C.state counter.old).past front
+        (L.state link.old).past
         (session_of house.old)
-        → InStep numbered (L.state link.old).kind before (C.state counter.new).past front (L.state link.new).past
+        → InStep numbered (L.state link.old).kind before (C.state counter.new).past front
+        (L.state link.new).past
         (session_of house.new) }
 
     // What stays, and what the keeper has of it.
@@ -84,7 +88,8 @@ fn note_turn<C: Counter>(
 )
     requires open { (C.state counter.old).closed ≡ false }
     ensures notes { Notes moment (session_of house.now).sender.acked was
-        (session_of house.now).desk.state note (C.state counter.old).past (C.state counter.new).past }
+        (session_of house.now).desk.state note (C.state counter.old).past
+        (C.state counter.new).past }
     ensures given { (C.state counter.new).given ≡ (C.state counter.old).given }
     ensures closed { (C.state counter.new).closed ≡ false }
     ensures place { (C.state counter.new).place ≡ (C.state counter.old).place }

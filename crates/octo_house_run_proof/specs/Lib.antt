@@ -1,2 +1,5 @@
--- What the history of a run says, beside what it leads to.
+pub mod InStep
+pub mod Laws
+pub mod Prints
 pub mod Rounds
+pub mod Tied

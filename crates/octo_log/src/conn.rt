@@ -105,28 +105,15 @@ fn keep_cause(cause: &mut Cause, bytes: &[u8])
 }
 
 impl<C: Conn + Drop> Conn for LoggedConn<C> {
-    ghost use Rattle.std.specs.Prelude.{◌≡◌, ◌<◌, ◌≤◌, [], length, take, IfOk, OnErr, IsErr, IfSome};
-    ghost use Rattle.octo_outside.specs.Recorded.{Adds, Counts};
-    ghost use Rattle.octo_outside.specs.Traits.{Receives, IsWithin, quiets_after};
+    ghost use Rattle.std.specs.Prelude.{◌≡◌, ◌<◌, length};
+    ghost use Rattle.octo_outside.specs.Conns.{Reads, Writes};
     ghost use Rattle.octo_log.specs.Refused.{asked_by, cause_after, status_after};
 
     ghost state = { λ c. C.state c.conn };
 
     fn read(&mut self, into: &mut [u8]) -> Result<Got, Failed>
         requires { 0 < length into.old }
-        // What the connection below reads.
-        ensures ok { IfOk result (λ got. IfSome (C.state self.old.conn).left
-            (λ before. Receives before got into.new (C.state self.new.conn).left)) }
-        ensures bound { IfOk result (λ got. IsWithin got (length into.new)) }
-        ensures err { OnErr result ((C.state self.new.conn).left ≡ (C.state self.old.conn).left) }
-        ensures written { (C.state self.new.conn).written ≡ (C.state self.old.conn).written }
-
-        // Counts.
-        ensures quiet { IfOk result
-            (λ got. (C.state self.new.conn).quiets ≡ quiets_after (C.state self.old.conn).quiets got) }
-        ensures quiet_err { OnErr result ((C.state self.new.conn).quiets ≡ (C.state self.old.conn).quiets) }
-        ensures quiets_counted { (C.state self.old.conn).quiets ≤ (C.state self.new.conn).quiets }
-        ensures counts { Counts (IsErr result) (C.state self.old.conn).faults (C.state self.new.conn).faults }
+        ensures reads { Reads (C.state self.old.conn) result into.new (C.state self.new.conn) }
 
         // What is kept.
         ensures asked { self.new.asked.items ≡ asked_by self.old.asked.items result into.new }
@@ -143,14 +130,7 @@ impl<C: Conn + Drop> Conn for LoggedConn<C> {
 
     fn write(&mut self, bytes: &[u8]) -> Result<usize, Failed>
         requires { 0 < length bytes.now }
-        // What is written to the connection below.
-        ensures ok { IfOk result (λ n. (0 < n) × (n ≤ length bytes.now)
-            × Adds (C.state self.old.conn).written (C.state self.new.conn).written (take n bytes.now)) }
-        ensures err { OnErr result
-            (Adds (C.state self.old.conn).written (C.state self.new.conn).written []) }
-        ensures left { (C.state self.new.conn).left ≡ (C.state self.old.conn).left }
-        ensures quiets { (C.state self.new.conn).quiets ≡ (C.state self.old.conn).quiets }
-        ensures counts { Counts (IsErr result) (C.state self.old.conn).faults (C.state self.new.conn).faults }
+        ensures writes { Writes (C.state self.old.conn) bytes.now result (C.state self.new.conn) }
 
         // What is kept.
         ensures asked { self.new.asked ≡ self.old.asked }

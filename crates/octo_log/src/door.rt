@@ -200,9 +200,8 @@ impl<D: Door + Drop, G: Sink + Drop> LoggedDoor<D, G> {
 }
 
 impl<D: Door + Drop, G: Sink + Drop> Door for LoggedDoor<D, G> {
-    ghost use Rattle.std.specs.Prelude.{◌≡◌, ◌∷◌, ◌||◌, [], true, Some, is_err, IfOk, IfSome, OnErr, OnOk, IsErr, IsOkAnd};
-    ghost use Rattle.octo_outside.specs.Recorded.{Adds, Counts};
-    ghost use Rattle.octo_outside_doors.specs.Doors.{Comes, IsNew, IsEnded};
+    ghost use Rattle.std.specs.Prelude.{is_err};
+    ghost use Rattle.octo_outside_doors.specs.Doors.{Accepts, Finishes};
     ghost use Rattle.octo_log.specs.Logged.{Logs};
     ghost use Rattle.octo_log.specs.Refused.{door_line, refusal_line};
 
@@ -211,22 +210,8 @@ impl<D: Door + Drop, G: Sink + Drop> Door for LoggedDoor<D, G> {
     ghost state = { λ l. D.state l.door };
 
     fn accept(&mut self) -> Result<Knock<LoggedConn<D::Conn>>, Failed>
-        ensures ok { IfOk result (λ knock. IfSome (D.state self.old.door).coming (λ inputs.
-            Comes (λ c. D.Conn.state c.conn)
-            inputs knock (D.state self.new.door).coming)) }
-        ensures fresh { IfOk result (λ knock.
-            IsNew (λ c. D.Conn.state c.conn) knock) }
-        ensures err { OnErr result
-            (IfSome (D.state self.old.door).coming (λ _. (D.state self.new.door).coming ≡ Some [])) }
-
-        // A failed call is the last one that isn't `Ended`.
-        ensures has_failed { (D.state self.new.door).has_failed
-            ≡ ((D.state self.old.door).has_failed || is_err result) }
-        ensures after { (D.state self.old.door).has_failed ≡ true → IsOkAnd result IsEnded }
-
-        ensures served { (D.state self.new.door).served ≡ (D.state self.old.door).served }
-        ensures counts { Counts (IsErr result) (D.state self.old.door).faults (D.state self.new.door).faults }
-        ensures steady { OnOk result ((D.state self.new.door).faults ≡ (D.state self.old.door).faults) }
+        ensures accepts { Accepts (λ c. D.Conn.state c.conn) (D.state self.old.door) result
+            (D.state self.new.door) }
 
         ensures logged { Logs (door_line (is_err result))
             (G.written self.old.log) (G.written self.new.log)
@@ -244,11 +229,8 @@ impl<D: Door + Drop, G: Sink + Drop> Door for LoggedDoor<D, G> {
     }
 
     fn finish(&mut self, conn: LoggedConn<D::Conn>)
-        ensures served { Adds (D.state self.old.door).served (D.state self.new.door).served
-            (D.Conn.state conn.conn ∷ []) }
-        ensures coming { (D.state self.new.door).coming ≡ (D.state self.old.door).coming }
-        ensures has_failed { (D.state self.new.door).has_failed ≡ (D.state self.old.door).has_failed }
-        ensures faults { (D.state self.new.door).faults ≡ (D.state self.old.door).faults }
+        ensures finishes { Finishes (D.state self.old.door) (D.Conn.state conn.conn)
+            (D.state self.new.door) }
 
         ensures logged { Logs
             (refusal_line conn.asked.items conn.status.items conn.cause.items)

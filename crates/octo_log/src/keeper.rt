@@ -115,24 +115,15 @@ impl<K: Keeper + Drop, G: Sink + Drop, C: Clock + Drop> LoggedKeeper<K, G, C> {
 }
 
 impl<K: Keeper + Drop, G: Sink + Drop, C: Clock + Drop> Keeper for LoggedKeeper<K, G, C> {
-    ghost use Rattle.std.specs.Prelude.{◌≡◌, option_map, is_err, IfOk, IfSome, OnOk, OnErr, IsErrOf};
-    ghost use Rattle.octo_outside.specs.Recorded.{Counts};
-    ghost use Rattle.octo_keeper.specs.declared.keeper.KeeperFault.TheVariants as fault;
-    ghost use Rattle.octo_keeper.specs.Tables.{changed, AreSound};
+    ghost use Rattle.std.specs.Prelude.{◌≡◌, is_err, IfSome};
+    ghost use Rattle.octo_keeper.specs.Calls.{Loads, Commits, BacksUp};
     ghost use Rattle.octo_log.specs.Lines.{backup_words, began_by, commit_lines, line_of, load_line};
     ghost use Rattle.octo_log.specs.Logged.{Logs};
 
     ghost state = { λ l. K.state l.keeper };
 
     fn load(&mut self, alloc: Global) -> Result<Tables, KeeperFault>
-        ensures ok { IfOk result
-            (λ loaded. IfSome (K.state self.old.keeper).tables (λ kept. loaded ≡ kept)) }
-        ensures sound { IfOk result AreSound }
-        ensures stays { (K.state self.new.keeper).tables ≡ (K.state self.old.keeper).tables }
-        ensures counts { Counts (IsErrOf result fault.Failed)
-            (K.state self.old.keeper).faults (K.state self.new.keeper).faults }
-        ensures steady { (IsErrOf result fault.Failed → ⊥)
-            → (K.state self.new.keeper).faults ≡ (K.state self.old.keeper).faults }
+        ensures loads { Loads (K.state self.old.keeper) result (K.state self.new.keeper) }
 
         ensures logged { Logs (load_line (is_err result))
             (G.written self.old.log) (G.written self.new.log)
@@ -146,13 +137,8 @@ impl<K: Keeper + Drop, G: Sink + Drop, C: Clock + Drop> Keeper for LoggedKeeper<
     }
 
     fn commit(&mut self, alloc: Global, change: &Change) -> Result<(), KeeperFault>
-        ensures ok { OnOk result ((K.state self.new.keeper).tables
-            ≡ option_map (changed change.now) (K.state self.old.keeper).tables) }
-        ensures err { OnErr result ((K.state self.new.keeper).tables ≡ (K.state self.old.keeper).tables) }
-        ensures counts { Counts (IsErrOf result fault.Failed)
-            (K.state self.old.keeper).faults (K.state self.new.keeper).faults }
-        ensures steady { (IsErrOf result fault.Failed → ⊥)
-            → (K.state self.new.keeper).faults ≡ (K.state self.old.keeper).faults }
+        ensures commits { Commits (K.state self.old.keeper) change.now result
+            (K.state self.new.keeper) }
 
         // The lines of the log, and when the last print began.
         ensures logged { Logs
@@ -179,12 +165,7 @@ impl<K: Keeper + Drop, G: Sink + Drop, C: Clock + Drop> Keeper for LoggedKeeper<
     }
 
     fn backup(&mut self, alloc: Global) -> Result<(), KeeperFault>
-        ensures ok { OnOk result ((K.state self.new.keeper).saved ≡ (K.state self.old.keeper).tables) }
-        ensures stays { (K.state self.new.keeper).tables ≡ (K.state self.old.keeper).tables }
-        ensures counts { Counts (IsErrOf result fault.Failed)
-            (K.state self.old.keeper).faults (K.state self.new.keeper).faults }
-        ensures steady { (IsErrOf result fault.Failed → ⊥)
-            → (K.state self.new.keeper).faults ≡ (K.state self.old.keeper).faults }
+        ensures backs_up { BacksUp (K.state self.old.keeper) result (K.state self.new.keeper) }
 
         ensures logged { Logs (line_of (backup_words (is_err result)))
             (G.written self.old.log) (G.written self.new.log)

@@ -32,9 +32,8 @@ impl<S: Shelf + Drop, G: Sink + Drop> LoggedShelf<S, G> {
 }
 
 impl<S: Shelf + Drop, G: Sink + Drop> Shelf for LoggedShelf<S, G> {
-    ghost use Rattle.std.specs.Prelude.{◌≡◌, option_map, is_err, IfOk, IfSome, OnOk, OnErr, IsErrOf};
-    ghost use Rattle.octo_outside.specs.Recorded.{Counts};
-    ghost use Rattle.octo_keeper.specs.declared.shelf.ShelfFault.TheVariants as fault;
+    ghost use Rattle.std.specs.Prelude.{◌≡◌, is_err, IfOk};
+    ghost use Rattle.octo_keeper.specs.Calls.{Looks, Changes};
     ghost use Rattle.octo_keeper.specs.Files.{bytes_of, size_of, sizes_of, with_file, without_file};
     ghost use Rattle.octo_log.specs.Lines.{line_of, list_line, get_line, file_words, put_words, remove_words};
     ghost use Rattle.octo_log.specs.Logged.{Logs};
@@ -44,13 +43,7 @@ impl<S: Shelf + Drop, G: Sink + Drop> Shelf for LoggedShelf<S, G> {
     ghost state = { λ l. S.state l.shelf };
 
     fn list(&mut self, alloc: Global) -> Result<FileList, ShelfFault>
-        ensures ok { IfOk result
-            (λ list. IfSome (S.state self.old.shelf).files (λ held. list ≡ sizes_of held)) }
-        ensures stays { (S.state self.new.shelf).files ≡ (S.state self.old.shelf).files }
-        ensures counts { Counts (IsErrOf result fault.Failed)
-            (S.state self.old.shelf).faults (S.state self.new.shelf).faults }
-        ensures steady { (IsErrOf result fault.Failed → ⊥)
-            → (S.state self.new.shelf).faults ≡ (S.state self.old.shelf).faults }
+        ensures lists { Looks (S.state self.old.shelf) sizes_of result (S.state self.new.shelf) }
 
         ensures logged { Logs (list_line (is_err result))
             (G.written self.old.log) (G.written self.new.log)
@@ -69,13 +62,8 @@ impl<S: Shelf + Drop, G: Sink + Drop> Shelf for LoggedShelf<S, G> {
         name: &Name,
         fetched: Option<Fetched>,
     ) -> Result<Option<Blob>, ShelfFault>
-        ensures ok { IfOk result (λ bytes. IfSome (S.state self.old.shelf).files
-            (λ held. bytes ≡ bytes_of name.now held)) }
-        ensures stays { (S.state self.new.shelf).files ≡ (S.state self.old.shelf).files }
-        ensures counts { Counts (IsErrOf result fault.Failed)
-            (S.state self.old.shelf).faults (S.state self.new.shelf).faults }
-        ensures steady { (IsErrOf result fault.Failed → ⊥)
-            → (S.state self.new.shelf).faults ≡ (S.state self.old.shelf).faults }
+        ensures gets { Looks (S.state self.old.shelf) (bytes_of name.now) result
+            (S.state self.new.shelf) }
 
         ensures logged { Logs (get_line name.now (is_err result))
             (G.written self.old.log) (G.written self.new.log)
@@ -92,13 +80,8 @@ impl<S: Shelf + Drop, G: Sink + Drop> Shelf for LoggedShelf<S, G> {
     }
 
     fn size(&mut self, name: &Name) -> Result<Option<u64>, ShelfFault>
-        ensures ok { IfOk result
-            (λ size. IfSome (S.state self.old.shelf).files (λ held. size ≡ size_of name.now held)) }
-        ensures stays { (S.state self.new.shelf).files ≡ (S.state self.old.shelf).files }
-        ensures counts { Counts (IsErrOf result fault.Failed)
-            (S.state self.old.shelf).faults (S.state self.new.shelf).faults }
-        ensures steady { (IsErrOf result fault.Failed → ⊥)
-            → (S.state self.new.shelf).faults ≡ (S.state self.old.shelf).faults }
+        ensures sizes { Looks (S.state self.old.shelf) (size_of name.now) result
+            (S.state self.new.shelf) }
 
         ensures logged { Logs (get_line name.now (is_err result))
             (G.written self.old.log) (G.written self.new.log)
@@ -127,14 +110,8 @@ impl<S: Shelf + Drop, G: Sink + Drop> Shelf for LoggedShelf<S, G> {
         bytes: &[u8],
         part: Option<u8>,
     ) -> Result<(), ShelfFault>
-        ensures ok { OnOk result ((S.state self.new.shelf).files
-            ≡ option_map (with_file name.now bytes.now) (S.state self.old.shelf).files) }
-        ensures err { OnErr result ((S.state self.new.shelf).files ≡ (S.state self.old.shelf).files) }
-        ensures counts { Counts (IsErrOf result fault.Failed)
-            (S.state self.old.shelf).faults (S.state self.new.shelf).faults }
-        ensures steady { (IsErrOf result fault.Failed → ⊥)
-            → (S.state self.new.shelf).faults ≡ (S.state self.old.shelf).faults }
-
+        ensures puts { Changes (S.state self.old.shelf) (with_file name.now bytes.now) result
+            (S.state self.new.shelf) }
         ensures logged { Logs (line_of (file_words name.now (put_words (is_err result))))
             (G.written self.old.log) (G.written self.new.log)
             (G.faults self.old.log) (G.faults self.new.log) }
@@ -150,14 +127,8 @@ impl<S: Shelf + Drop, G: Sink + Drop> Shelf for LoggedShelf<S, G> {
     }
 
     fn remove(&mut self, alloc: Global, name: &Name) -> Result<(), ShelfFault>
-        ensures ok { OnOk result ((S.state self.new.shelf).files
-            ≡ option_map (without_file name.now) (S.state self.old.shelf).files) }
-        ensures err { OnErr result ((S.state self.new.shelf).files ≡ (S.state self.old.shelf).files) }
-        ensures counts { Counts (IsErrOf result fault.Failed)
-            (S.state self.old.shelf).faults (S.state self.new.shelf).faults }
-        ensures steady { (IsErrOf result fault.Failed → ⊥)
-            → (S.state self.new.shelf).faults ≡ (S.state self.old.shelf).faults }
-
+        ensures removes { Changes (S.state self.old.shelf) (without_file name.now) result
+            (S.state self.new.shelf) }
         ensures logged { Logs (line_of (file_words name.now (remove_words (is_err result))))
             (G.written self.old.log) (G.written self.new.log)
             (G.faults self.old.log) (G.faults self.new.log) }

@@ -100,7 +100,8 @@ impl<L: Link + WatchedLink + Drop, G: Sink + Drop> Link for LoggedLink<L, G> {
     fn send(&mut self, line: &Line) -> Result<(), LinkFault>
         requires open { (L.state self.old.link).up ≡ true }
         requires short { length line.now.items ≤ MOST_LINE_BYTES }
-        ensures sends { Sends (L.state self.old.link) line.now.items result (L.state self.new.link) }
+        ensures sends { Sends (L.state self.old.link) line.now.items result
+            (L.state self.new.link) }
 
         // The line of the log, if the link is made or failed.
         ensures logged { Logs (link_line self.old.is_pending self.old.has_no_link
@@ -122,7 +123,8 @@ impl<L: Link + WatchedLink + Drop, G: Sink + Drop> Link for LoggedLink<L, G> {
 
     fn recv(&mut self, into: &mut ReplyLine) -> Result<Heard, LinkFault>
         requires { (L.state self.old.link).up ≡ true }
-        ensures hears { Hears (L.state self.old.link) result into.new.items (L.state self.new.link) }
+        ensures hears { Hears (L.state self.old.link) result into.new.items
+            (L.state self.new.link) }
 
         // The lines of the log: what the call shows of the link, and what was received.
         ensures logged { Logs (link_line self.old.is_pending self.old.has_no_link

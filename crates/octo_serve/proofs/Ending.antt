@@ -9,8 +9,8 @@ use Rattle.octo_outside.proofs.Recorded.{became_so}
 use Rattle.octo_house_run.specs.Own.{ConnectsItself}
 use Rattle.octo_api_worker.specs.declared.terms.Terms.{Terms}
 use Rattle.octo_api_worker.specs.Worked.{AreOfReturned, HasReturned, HasWorked}
-use Rattle.hand_over.specs.declared.workers.Workers.{Workers}
-use Rattle.hand_over.specs.Views.{AreCalls}
+use Rattle.octo_serve.specs.declared.workers.Workers.{Workers}
+use Rattle.octo_serve.specs.Views.{AreCalls}
 use Rattle.octo_outside_doors.specs.Doors.{DoorState}
 use Rattle.octo_serve.specs.Hosted.{Setting, Ran}
 use Rattle.octo_serve.specs.Doors.{AtDoor, AllWork, IsServedBy, AreServed}

@@ -17,8 +17,8 @@ use Rattle.octo_api_worker.specs.declared.terms.Terms.{Terms}
 use Rattle.octo_api_worker.specs.Served.{IsServed}
 use Rattle.octo_api_worker.specs.Worked.{Served, none_served, one_more, Leaves, no_leave, one_leave, IsAsk, HasReturned, HasWorked}
 use Rattle.octo_api_worker.proofs.Asked.{served_asks}
-use Rattle.hand_over.specs.Ends.{HistoryData}
-use Rattle.hand_over.specs.Views.{AreCalls, has_close, is_own, all_of_four}
+use Rattle.octo_serve.specs.Ends.{HistoryData}
+use Rattle.octo_serve.specs.Views.{AreCalls, has_close, is_own, all_of_four}
 use Rattle.octo_house_rules.specs.Counted.{is_leave, leaves_made, is_shut}
 use Rattle.octo_house_run.specs.Runs.{IsOver}
 use Rattle.octo_house_run.proofs.Tallying.{leaves_append}

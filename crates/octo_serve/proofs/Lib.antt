@@ -1,3 +1,14 @@
+pub mod Asking
+pub mod Awaiting
+pub mod Counting
 pub mod Ending
+pub mod Frames
+pub mod Housing
+pub mod Joining
 pub mod Leaving
+pub mod Lists
+pub mod Looking
 pub mod Owning
+pub mod Seating
+pub mod Sitting
+pub mod Working

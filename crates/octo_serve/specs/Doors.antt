@@ -6,8 +6,8 @@ use Rattle.octo_asks.specs.Calls.{AskerState}
 use Rattle.octo_asks.specs.History.{History, calls_of}
 use Rattle.octo_api_worker.specs.Worked.{HasReturned, HasWorked}
 use Rattle.octo_api_worker.specs.declared.terms.Terms.{Terms}
-use Rattle.hand_over.specs.declared.workers.Workers.{Workers}
-use Rattle.hand_over.specs.Ends.{WorkerData, worker_place}
+use Rattle.octo_serve.specs.declared.workers.Workers.{Workers}
+use Rattle.octo_serve.specs.Ends.{WorkerData, worker_place}
 use Rattle.octo_outside_doors.specs.Doors.{DoorState}
 
 -- what a worker's end says of itself

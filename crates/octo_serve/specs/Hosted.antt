@@ -4,8 +4,8 @@ use Rattle.octo_outside.specs.Recorded.{Became}
 use Rattle.octo_outside_doors.specs.declared.door.Doors.{Doors}
 use Rattle.octo_asks.specs.History.{History}
 use Rattle.octo_api_worker.specs.declared.terms.Terms.{Terms}
-use Rattle.hand_over.specs.Ends.{HistoryData}
-use Rattle.hand_over.specs.Views.{AreCalls, all_of_four, has_close}
+use Rattle.octo_serve.specs.Ends.{HistoryData}
+use Rattle.octo_serve.specs.Views.{AreCalls, all_of_four, has_close}
 use Rattle.octo_house_rules.specs.Counted.{is_shut}
 use Rattle.octo_house_rules.specs.Faults.{AreCounted}
 use Rattle.octo_house_rules.specs.LinkUse.{UsesLink}

@@ -1,5 +1,8 @@
--- The words of a serving host's contracts.
 pub mod Around
 pub mod Doors
+pub mod Ends
 pub mod Hosted
 pub mod Own
+pub mod Rule
+pub mod Steps
+pub mod Views

@@ -5,7 +5,7 @@ ghost use Rattle.octo_serve.specs.Around.{door_states};
 ghost use Rattle.octo_serve.specs.Doors.{WorksAt, AllWork, worker_state};
 
 use crate::stagers::Stagers;
-use hand_over::Workers;
+use crate::workers::Workers;
 use octo_api_routes::Routes;
 use octo_api_worker::{Terms, worker};
 use octo_asks::Asker;

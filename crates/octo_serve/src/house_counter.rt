@@ -2,7 +2,7 @@
 ghost use Rattle.std.specs.Prelude.{◌≡◌, true, None};
 ghost use Rattle.octo_serve.specs.Own.{is_of_worker};
 
-use hand_over::HouseEnd;
+use crate::house_end::HouseEnd;
 use job_desk::Note;
 use octo_asks::{Answer, Counter, Next};
 
@@ -33,7 +33,7 @@ impl HouseCounter {
 
 impl Counter for HouseCounter {
     ghost use Rattle.std.specs.Prelude.{Some};
-    ghost use Rattle.hand_over.specs.Ends.{house_place};
+    ghost use Rattle.octo_serve.specs.Ends.{house_place};
 
     ghost state = { λ c. record {
       place = house_place c.end;

@@ -1,6 +1,6 @@
 //! The host from its first connection to its end.
 ghost use Rattle.std.specs.Prelude.{◌≡◌, false, true, None, Some, IfOk, OnErr};
-ghost use Rattle.hand_over.specs.Ends.{house_place};
+ghost use Rattle.octo_serve.specs.Ends.{house_place};
 ghost use Rattle.octo_house.specs.State.{session_of};
 ghost use Rattle.octo_house_run.specs.Own.{ConnectsItself};
 ghost use Rattle.octo_house_run.specs.Runs.{IsFresh};
@@ -11,8 +11,9 @@ ghost use Rattle.printer_link.specs.Suits.{SuitsAs};
 
 use crate::beside::four_beside;
 use crate::house_counter::HouseCounter;
+use crate::joined::History;
 use crate::stagers::stagers_of;
-use hand_over::{History, ends};
+use crate::workers::ends;
 use octo_api_routes::Routes;
 use octo_api_worker::Terms;
 use octo_house::House;

@@ -4,12 +4,12 @@ use Rattle.std.proofs.lemmas.Option.{same_Some}
 use Rattle.job_desk.specs.Data.{new_desk}
 use Rattle.octo_asks.specs.History.{History}
 use Rattle.octo_session.specs.Data.{SessionData}
-use Rattle.hand_over.specs.Ends.{HistoryData}
+use Rattle.octo_serve.specs.Ends.{HistoryData}
 use Rattle.octo_house_rules.specs.Legal.{Standing, beginning, Legal}
 use Rattle.octo_house.specs.Beginning.{IsMadeOf}
 use Rattle.octo_house.specs.State.{known_of, session_of}
 use Rattle.octo_house.specs.declared.house.House.{House}
-use Rattle.octo_house_contents.specs.Contents.{LegalOver}
+use Rattle.octo_house_laws.specs.OverContents.{LegalOver}
 use Rattle.octo_house_laws.proofs.Contents.{keeps_over, every_line_over}
 use Rattle.octo_house_laws.proofs.Hosts.{new_host_keeps}
 use Rattle.octo_house_laws.proofs.Limits.{every_line_of_settings}

@@ -2,7 +2,7 @@
 use Rattle.std.proofs.Common.{◌≡◌, ℕ, Bool, List, [], ◌++◌, Some, refl, sym, ◌∙◌, ap, subst}
 use Rattle.octo_asks.specs.History.{History}
 use Rattle.octo_session.specs.Data.{SessionData}
-use Rattle.hand_over.specs.Ends.{HistoryData}
+use Rattle.octo_serve.specs.Ends.{HistoryData}
 use Rattle.octo_house_rules.specs.Legal.{beginning}
 use Rattle.octo_house_rules.specs.Headline.{KeepsPrints}
 use Rattle.octo_house_rules.specs.PrintLaws.{IsNewDesk, IsBeginning}

@@ -4,7 +4,7 @@ use Rattle.octo_outside.specs.Recorded.{Rose}
 use Rattle.octo_outside.specs.Traits.{Files}
 use Rattle.octo_asks.specs.History.{History, calls_of}
 use Rattle.octo_outside_doors.specs.declared.door.Doors.{Doors}
-use Rattle.hand_over.specs.Ends.{HistoryData}
+use Rattle.octo_serve.specs.Ends.{HistoryData}
 use Rattle.octo_house.specs.declared.faults.BeginFault.{BeginFault}
 use Rattle.octo_house.specs.declared.faults.BeginFault.TheVariants as begin
 use Rattle.octo_files.specs.Settings.{HaveSettings}

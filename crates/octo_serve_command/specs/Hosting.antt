@@ -3,7 +3,7 @@ use Rattle.std.specs.Prelude.{◌≡◌, ℕ, ◌≤◌, Bool, length, List, [],
 use Rattle.octo_outside.specs.Recorded.{Rose}
 use Rattle.octo_outside.specs.Traits.{Files}
 use Rattle.octo_outside_doors.specs.declared.door.Doors.{Doors}
-use Rattle.hand_over.specs.Ends.{HistoryData}
+use Rattle.octo_serve.specs.Ends.{HistoryData}
 use Rattle.octo_access.specs.Rows.{IsUserTable}
 use Rattle.octo_asks.specs.History.{History}
 use Rattle.octo_keeper.specs.declared.shelf.ShelfFile.{ShelfFile}

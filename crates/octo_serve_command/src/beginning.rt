@@ -41,14 +41,16 @@ pub(crate) fn begin_by<K: Keeper, S: Shelf>(
     ensures made { IfOk result (λ begun. IsMadeOf (session_by settings) (policy_by settings)
         settings.ports settings.material begun.house) }
     ensures begins { IfOk result (λ begun. BeginsOn (session_by settings) (policy_by settings)
-        settings.ports settings.material (K.state keeper.old).tables (S.state shelf.old).files begun.house) }
+        settings.ports settings.material (K.state keeper.old).tables (S.state shelf.old).files
+        begun.house) }
     ensures fresh { IfOk result (λ begun. IsFresh (session_of begun.house)) }
     ensures terms { IfOk result (λ begun. begun.terms ≡ terms_by settings) }
 
     // Keeper and shelf hold what they held, and it is the host's.
     ensures tables { (K.state keeper.new).tables ≡ (K.state keeper.old).tables }
     ensures files { (S.state shelf.new).files ≡ (S.state shelf.old).files }
-    ensures kept { IfOk result (λ begun. (tables : Tables) → (K.state keeper.new).tables ≡ Some tables
+    ensures kept { IfOk result (λ begun. (tables : Tables) → (K.state keeper.new).tables
+        ≡ Some tables
         → IsUserTable tables.users → IsLawful tables.queue
         → IsKept (length tables.prints) (K.state keeper.new).tables begun.house.tables) }
     ensures listed { IfOk result (λ begun. IsListed (S.state shelf.new).files begun.house) }

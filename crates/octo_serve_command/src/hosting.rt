@@ -14,13 +14,12 @@ ghost use Rattle.printer_link.specs.Suits.{SuitsAs};
 
 use crate::beginning::{Begun, begin_by};
 use crate::report::HostReport;
-use hand_over::History;
 use octo_files::{Report, read_settings_of};
 use octo_house::BeginFault;
 use octo_keeper::{Keeper, Shelf};
 use octo_outside::{Clock, Sink, Source};
 use octo_outside_doors::{Door, Doors};
-use octo_serve::{Served, serve};
+use octo_serve::{History, Served, serve};
 use octo_settings::Settings;
 use printer_link::Link;
 use std::alloc::{AllocError, Global};
@@ -107,7 +106,8 @@ fn serve_by<
 ) -> HostEnd
     requires sound { IsSettings settings }
     requires down { (L.state link.old).up ≡ false }
-    requires suits { SuitsAs settings.numbered_oks (L.state link.old).past (L.state link.old).kind.oks }
+    requires suits { SuitsAs settings.numbered_oks (L.state link.old).past
+        (L.state link.old).kind.oks }
 
     ensures serves { let at = around (L.state) T.moment
         (K.state) (S.state)

@@ -8,8 +8,8 @@ use Rattle.printer_link.proofs.Grown.{recorded_same}
 use Rattle.send_window.specs.Data.{SenderData, IsSound}
 use Rattle.octo_session.specs.Data.{SessionData, doing, port_of}
 use Rattle.temp_rules.specs.Hot.{first_hot_of}
-use Rattle.octo_session_plan_proof.specs.Underway.{IsUnderway}
-use Rattle.octo_session_plan_proof.proofs.Calls.{select-underway}
+use Rattle.octo_session_print.specs.Underway.{IsUnderway}
+use Rattle.octo_session_print.proofs.Calls.{select-underway}
 use Rattle.octo_session_print.specs.Ends.{IsNew, print_of}
 use Rattle.octo_session_line_proof.specs.Patience.{IsOnTime}
 use Rattle.send_window.specs.Patience.{IsPatient}
@@ -20,7 +20,7 @@ use Rattle.octo_session_print.specs.declared.end.PrintEnd.TheVariants as end
 use Rattle.octo_session_line_proof.proofs.AllSent.{none_unsent}
 use Rattle.octo_session_line_proof.proofs.Histories.{none_printed}
 use Rattle.octo_session_print.proofs.Printing.{printed_of, part_none}
-use Rattle.octo_session_plan_proof.specs.Progress.{after_select}
+use Rattle.octo_session_print.specs.Progress.{after_select}
 
 new_acked : (x : SessionData) → IsNew x → x.sender.acked ≡ 0
 new_acked x new = ap (λ (s : SenderData). s.acked) new.its_sender

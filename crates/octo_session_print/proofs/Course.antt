@@ -11,9 +11,9 @@ use Rattle.job_desk.specs.declared.state.State.{State}
 use Rattle.job_desk.specs.declared.state.State.TheVariants.{Offline, Connecting, Operational, Printing, Pausing, Paused, Cancelling, Finishing, Closing, Fault}
 use Rattle.print_queue.specs.declared.ending.Ending.{Ending}
 use Rattle.octo_session.specs.DeskTurn.{Pulls, IsNoted}
-use Rattle.octo_session_plan_proof.specs.Plan.{PrintData}
-use Rattle.octo_session_plan_proof.specs.Underway.{IsUnderway}
-use Rattle.octo_session_plan_proof.proofs.Calls.{start-underway, disconnect-underway}
+use Rattle.octo_session_print.specs.Plan.{PrintData}
+use Rattle.octo_session_print.specs.Underway.{IsUnderway}
+use Rattle.octo_session_print.proofs.Calls.{start-underway, disconnect-underway}
 use Rattle.octo_session_print.specs.Ends.{left_after}
 
 -- after the link was hung up the desk is offline, if nobody stopped the printer

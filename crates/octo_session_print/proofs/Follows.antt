@@ -17,9 +17,9 @@ use Rattle.octo_session.specs.Data.{SessionData, doing, is_calling}
 use Rattle.octo_session.specs.Found.{can_find}
 use Rattle.octo_session.specs.declared.found.Doing.{Doing}
 use Rattle.octo_session.specs.declared.found.Doing.TheVariants.{Dialling, HangingUp, UsingLink, Resting}
-use Rattle.octo_session_plan_proof.specs.Plan.{PrintData, print_commands}
+use Rattle.octo_session_print.specs.Plan.{PrintData, print_commands}
 use Rattle.octo_session.specs.Plan.{plan}
-use Rattle.octo_session_plan_proof.specs.Underway.{IsUnderway}
+use Rattle.octo_session_print.specs.Underway.{IsUnderway}
 use Rattle.octo_session_line_proof.proofs.Turned.{rests_down}
 use Rattle.octo_session_print.specs.Ends.{end_of, desk_after, left_after}
 use Rattle.octo_session_print.specs.Printed.{IsOver}

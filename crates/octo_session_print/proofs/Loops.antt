@@ -11,9 +11,9 @@ use Rattle.printer_link.proofs.Grown.{recorded_then, recorded_so}
 use Rattle.octo_session.specs.Data.{SessionData, doing, port_of}
 use Rattle.octo_session.specs.declared.found.Doing.TheVariants.{Dialling}
 use Rattle.octo_session_line_proof.proofs.Turned.{dials_down, world_then}
-use Rattle.octo_session_plan_proof.specs.Plan.{PrintData, print_commands}
+use Rattle.octo_session_print.specs.Plan.{PrintData, print_commands}
 use Rattle.octo_session.specs.Plan.{plan}
-use Rattle.octo_session_plan_proof.proofs.Results.{underway-part}
+use Rattle.octo_session_print.proofs.Results.{underway-part}
 use Rattle.octo_session_print.specs.Printed.{HasPrinted, IsOver}
 use Rattle.octo_session_print.specs.BetweenTurns.{HasSentAll, IsDialling, IsOnLink, IsBetweenTurns}
 use Rattle.octo_session_print.specs.declared.end.PrintEnd.{PrintEnd}

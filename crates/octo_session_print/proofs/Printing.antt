@@ -8,9 +8,9 @@ use Rattle.printer_model.specs.declared.event.WorldEvent.TheVariants.{Opened}
 use Rattle.printer_link.specs.Link.{LinkKind, world_in}
 use Rattle.octo_session.specs.Plan.{Weave, empty, planned, polled, probed, WeavesPart}
 use Rattle.octo_session.specs.Data.{SessionData}
-use Rattle.octo_session_plan_proof.specs.Plan.{PrintData}
-use Rattle.octo_session_plan_proof.proofs.Rests.{longer_weaves}
-use Rattle.octo_session_plan_proof.proofs.Weaves.{part_of}
+use Rattle.octo_session_print.specs.Plan.{PrintData}
+use Rattle.octo_session_print.proofs.Rests.{longer_weaves}
+use Rattle.octo_session_print.proofs.Weaves.{part_of}
 use Rattle.octo_session_line_proof.specs.AllSent.{AreAllSent}
 use Rattle.octo_session_line_proof.specs.History.{IsMade}
 use Rattle.octo_session_line_proof.specs.Linked.{start_of, opened as by_opened}

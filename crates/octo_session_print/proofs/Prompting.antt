@@ -12,15 +12,15 @@ use Rattle.printer_model.specs.declared.event.WorldEvent.{WorldEvent}
 use Rattle.printer_link.specs.Link.{LinkKind}
 use Rattle.send_window.specs.Data.{most_lines}
 use Rattle.octo_session.specs.Data.{SessionData, port_of}
-use Rattle.octo_session_plan_proof.specs.Plan.{PrintData}
+use Rattle.octo_session_print.specs.Plan.{PrintData}
 use Rattle.octo_session.specs.Plan.{plan}
-use Rattle.octo_session_plan_proof.specs.OnWay.{plan_length, IsOnWay, dials, LeadsOn}
+use Rattle.octo_session_print.specs.OnWay.{plan_length, IsOnWay, dials, LeadsOn}
 use Rattle.octo_session.specs.Smooth.{IsSmooth}
 use Rattle.octo_session.proofs.Choosing.{dials_at}
 use Rattle.octo_session_print.specs.Ends.{IsNew, end_of, desk_after}
 use Rattle.octo_session_print.specs.BetweenTurns.{IsDialling}
 use Rattle.octo_session_print.specs.Enough.{LeavesOnWay}
-use Rattle.octo_session_plan_proof.specs.Progress.{after_select}
+use Rattle.octo_session_print.specs.Progress.{after_select}
 
 -- what follows of a turn that leads a print on
 pub leads_left : (f : LinkFact) (ending : Option Ending) (kind : LinkKind) (p : PrintData) (poll_ms at left : ℕ) (past : Option (List WorldEvent)) (x : SessionData) →

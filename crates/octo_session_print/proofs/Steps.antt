@@ -21,12 +21,12 @@ use Rattle.octo_session.specs.Turn.{IsTurn, fact_of, note_lines, texts_in}
 use Rattle.octo_session.specs.declared.found.Doing.{Doing}
 use Rattle.octo_session.specs.declared.found.Doing.TheVariants.{Dialling, Resting}
 use Rattle.octo_session.specs.declared.found.Turned.{Turned}
-use Rattle.octo_session_plan_proof.specs.Plan.{PrintData, print_commands}
+use Rattle.octo_session_print.specs.Plan.{PrintData, print_commands}
 use Rattle.octo_session.specs.Plan.{plan, Weave}
-use Rattle.octo_session_plan_proof.specs.Turned.{IsTurnOf}
-use Rattle.octo_session_plan_proof.proofs.Turning.{turn-underway}
-use Rattle.octo_session_plan_proof.specs.Underway.{IsUnderway}
-use Rattle.octo_session_plan_proof.proofs.Results.{underway-part, underway-whole}
+use Rattle.octo_session_print.specs.Turned.{IsTurnOf}
+use Rattle.octo_session_print.proofs.Turning.{turn-underway}
+use Rattle.octo_session_print.specs.Underway.{IsUnderway}
+use Rattle.octo_session_print.proofs.Results.{underway-part, underway-whole}
 use Rattle.octo_session_line_proof.specs.Issuing.{issued_in}
 use Rattle.octo_session_line_proof.specs.Linked.{IsLinked, LinkedAs, opened}
 use Rattle.octo_session.proofs.Noting.{noted_fact, noted_lines, desk_noted}

@@ -6,9 +6,9 @@ use Rattle.send_window.specs.Data.{IsSound}
 use Rattle.octo_session.specs.Data.{SessionData, doing, port_of}
 use Rattle.octo_session.specs.declared.found.Doing.TheVariants.{Dialling}
 use Rattle.temp_rules.specs.Hot.{first_hot_of}
-use Rattle.octo_session_plan_proof.specs.Plan.{PrintData, print_commands}
+use Rattle.octo_session_print.specs.Plan.{PrintData, print_commands}
 use Rattle.octo_session.specs.Plan.{plan}
-use Rattle.octo_session_plan_proof.specs.Underway.{IsUnderway}
+use Rattle.octo_session_print.specs.Underway.{IsUnderway}
 use Rattle.octo_session_line_proof.specs.AllSent.{AreAllSent}
 use Rattle.octo_session_line_proof.specs.History.{IsMade}
 use Rattle.octo_session_print.specs.Printed.{IsOver}

@@ -8,7 +8,7 @@ use Rattle.print_queue.specs.declared.ending.Ending.{Ending}
 use Rattle.send_window.specs.Data.{IsSound, new_sender}
 use Rattle.octo_session.specs.Data.{SessionData}
 use Rattle.temp_rules.specs.declared.job.HotLine.{HotLine}
-use Rattle.octo_session_plan_proof.specs.Plan.{PrintData}
+use Rattle.octo_session_print.specs.Plan.{PrintData}
 use Rattle.octo_session_print.specs.declared.end.PrintEnd.{PrintEnd}
 use Rattle.octo_session_print.specs.declared.end.PrintEnd.TheVariants as end
 

@@ -3,8 +3,8 @@ use Rattle.std.specs.Prelude.{◌≡◌, ℕ, List, Option, None, Some}
 use Rattle.printer_model.specs.declared.event.WorldEvent.{WorldEvent}
 use Rattle.printer_link.specs.Link.{LinkKind}
 use Rattle.octo_session.specs.Data.{SessionData}
-use Rattle.octo_session_plan_proof.specs.Plan.{PrintData}
-use Rattle.octo_session_plan_proof.specs.OnWay.{IsOnWay}
+use Rattle.octo_session_print.specs.Plan.{PrintData}
+use Rattle.octo_session_print.specs.OnWay.{IsOnWay}
 use Rattle.octo_session_print.specs.declared.end.PrintEnd.{PrintEnd}
 use Rattle.octo_session_print.specs.declared.end.PrintEnd.TheVariants as end
 

@@ -1,5 +1,12 @@
 pub mod BetweenTurns
 pub mod Ends
 pub mod Enough
+pub mod OnWay
+pub mod Plan
 pub mod Printed
+pub mod Progress
+pub mod Prompt
+pub mod Remaining
+pub mod Turned
+pub mod Underway
 pub mod Waiting

@@ -1,7 +1,7 @@
 //! A log of events.
 ghost use Rattle.std.specs.Prelude.{◌≡◌, [], ◌∷◌, IfOk};
 
-use event_log::EventLog;
+use octo_floor_bay::EventLog;
 use std::alloc::{AllocError, Global};
 use std::test::Fail;
 

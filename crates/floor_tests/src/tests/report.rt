@@ -1,6 +1,6 @@
 //! What a run of a floor reports.
-use octo_floor_report::{floor_code, write_floor_end};
-use octo_floor_rules::{FloorEnd, FloorFault, Why};
+use octo_floor_bay::{FloorEnd, FloorFault, Why};
+use octo_floor_command::{floor_code, write_floor_end};
 use octo_outside::{CallList, MemorySink};
 use std::alloc::Global;
 use std::test::Fail;

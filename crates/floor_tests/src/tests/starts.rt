@@ -2,7 +2,7 @@
 ghost use Rattle.std.specs.Prelude.{◌≤◌};
 
 use byte_text::Name;
-use octo_floor_rules::{copies_left, next_start};
+use octo_floor_bay::{copies_left, next_start};
 use print_queue::Queue;
 use std::alloc::Global;
 use std::test::Fail;

@@ -10,8 +10,9 @@ use print_queue::Outcome;
 use printer_link::FateList;
 use std::alloc::Global;
 use std::process::Abort;
-use test_links::LossyLink;
-use test_makers::{ANA, house_of, keeper_of, kept_outcome, link_at, shelf_of, three_users};
+use test_makers::{
+    ANA, LossyLink, house_of, keeper_of, kept_outcome, link_at, shelf_of, three_users,
+};
 
 // The time limit of a line, in milliseconds.
 pub(super) const LIMIT: u64 = 30_000;

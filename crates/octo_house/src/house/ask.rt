@@ -294,7 +294,8 @@ impl House {
     // Has the keeper write a copy of the tables.
     fn backup<K: Keeper>(&self, keeper: &mut K) -> Answer
         ensures done { Answers (backup_verdict (known_of self.now)) result self.now self.now }
-        ensures saved { result ≡ answer.Accepted → (K.state keeper.new).saved ≡ (K.state keeper.old).tables }
+        ensures saved { result ≡ answer.Accepted → (K.state keeper.new).saved
+            ≡ (K.state keeper.old).tables }
         ensures rest { KeeperDone (K.state keeper.old) (K.state keeper.new)
             result self.now self.now }
     {

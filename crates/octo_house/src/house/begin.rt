@@ -53,7 +53,8 @@ impl House {
         // Keeper and shelf hold what they held, and it is the host's.
         ensures tables { (K.state keeper.new).tables ≡ (K.state keeper.old).tables }
         ensures files { (S.state shelf.new).files ≡ (S.state shelf.old).files }
-        ensures kept { IfOk result (λ house. (tables : Tables) → (K.state keeper.new).tables ≡ Some tables
+        ensures kept { IfOk result (λ house. (tables : Tables) → (K.state keeper.new).tables
+            ≡ Some tables
             → IsUserTable tables.users → IsLawful tables.queue
             → IsKept (length tables.prints) (K.state keeper.new).tables house.tables) }
         ensures listed { IfOk result (λ house. IsListed (S.state shelf.new).files house) }

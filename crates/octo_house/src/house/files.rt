@@ -21,7 +21,8 @@ use octo_keeper::{Fetched, Shelf};
 impl House {
     // All files.
     pub(super) fn list_files<S: Shelf>(&self, shelf: &mut S) -> Answer
-        ensures done { AnswersOn (S.state shelf.old).files list_files_verdict result self.now self.now }
+        ensures done { AnswersOn (S.state shelf.old).files list_files_verdict result self.now
+            self.now }
         ensures some { AnswersOnSome list_files_verdict result self.now self.now }
         ensures granted { is_denied result ≡ false }
         ensures rest { ShelfDone (S.state shelf.old) (S.state shelf.new) result }
@@ -109,7 +110,8 @@ impl House {
         ensures rows { AreRowsLeft self.old self.new }
         ensures listed { IsListed (S.state shelf.old).files self.old
             → IsListed (S.state shelf.new).files self.new }
-        ensures shelf { Counts (is_shelfs result ≡ true) (S.state shelf.old).faults (S.state shelf.new).faults }
+        ensures shelf { Counts (is_shelfs result ≡ true) (S.state shelf.old).faults
+            (S.state shelf.new).faults }
         ensures keeper { is_keepers result ≡ false }
     {
         if !self.holds(name) {

@@ -37,7 +37,8 @@ impl House {
         requires { (L.state link.old).up ≡ self.old.desk.session.up }
 
         // The session takes a turn of its own.
-        ensures turn { IsTurn moment (L.state link.old).kind (L.state link.old).past (L.state link.new).past
+        ensures turn { IsTurn moment (L.state link.old).kind (L.state link.old).past
+            (L.state link.new).past
             (L.state link.old).calls (L.state link.new).calls
             self.old.desk.session self.new.desk.session result }
         ensures by_note { IsTurnByNote moment (L.state link.old).kind

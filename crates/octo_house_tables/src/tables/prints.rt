@@ -74,7 +74,8 @@ impl HostTables {
         requires { ended ≢ None → self.old.unwritten ≡ None }
         ensures ok { OnOk result (self.new ≡ with_begun ended row taken self.old) }
         ensures err { OnErr result (self.new ≡ self.old) }
-        ensures kept { KeepsRows (K.state keeper.old).tables (K.state keeper.new).tables self.old self.new }
+        ensures kept { KeepsRows (K.state keeper.old).tables (K.state keeper.new).tables self.old
+            self.new }
         ensures keeper { Counts (is_failed result ≡ true)
             (K.state keeper.old).faults (K.state keeper.new).faults }
     {
@@ -130,7 +131,8 @@ impl HostTables {
         } }
         ensures due { (due_of self.new ≡ None)
             ⊎ (due_of self.new ≡ option_or ended (due_of self.old)) }
-        ensures kept { KeepsRows (K.state keeper.old).tables (K.state keeper.new).tables self.old self.new }
+        ensures kept { KeepsRows (K.state keeper.old).tables (K.state keeper.new).tables self.old
+            self.new }
         ensures keeper { Counts (is_unwritten_by_fault self.new.unwritten ≡ true)
             (K.state keeper.old).faults (K.state keeper.new).faults }
     {
@@ -146,7 +148,8 @@ impl HostTables {
     fn write_end<K: Keeper>(&mut self, keeper: &mut K)
         ensures rest { self.new ≡ record self.old { unwritten = self.new.unwritten } }
         ensures due { (due_of self.new ≡ None) ⊎ (due_of self.new ≡ due_of self.old) }
-        ensures kept { KeepsRows (K.state keeper.old).tables (K.state keeper.new).tables self.old self.new }
+        ensures kept { KeepsRows (K.state keeper.old).tables (K.state keeper.new).tables self.old
+            self.new }
         ensures keeper { Counts (is_unwritten_by_fault self.new.unwritten ≡ true)
             (K.state keeper.old).faults (K.state keeper.new).faults }
     {

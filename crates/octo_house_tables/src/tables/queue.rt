@@ -60,7 +60,8 @@ impl HostTables {
             ⊎ ((result ≡ answer.OneEntry (shown_entry entry)) ⊎ (result ≡ answer.KeeperFault)) }
         ensures ok { is_fault result ≡ false → (self.new ≡ self.old) × ((K.state keeper.new).tables
             ≡ option_map (changed (change.PutEntry entry)) (K.state keeper.old).tables) }
-        ensures err { is_fault result ≡ true → ((K.state keeper.new).tables ≡ (K.state keeper.old).tables)
+        ensures err { is_fault result ≡ true
+            → ((K.state keeper.new).tables ≡ (K.state keeper.old).tables)
             × (self.new ≡ record self.old {
               queue = without entry.user entry.name self.old.queue;
             }) }

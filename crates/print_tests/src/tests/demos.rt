@@ -1,11 +1,11 @@
 //! Files, fates and summaries of demos.
 ghost use Rattle.std.specs.Prelude.{◌≤◌};
-ghost use Rattle.octo_session_demo.specs.declared.file.TheConstants.{MOST_COMMANDS};
+ghost use Rattle.octo_commands_print.specs.declared.file.TheConstants.{MOST_COMMANDS};
 
-use octo_outside::calls_of;
-use octo_session_demo::{
+use octo_commands_print::{
     Demo, DemoCounts, Draws, demo_file, demo_job, demo_schedule, run_demo, summary,
 };
+use octo_outside::calls_of;
 use octo_session_print::PrintEnd;
 use printer_link::Fate;
 use std::alloc::Global;

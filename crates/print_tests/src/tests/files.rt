@@ -7,7 +7,7 @@ use octo_outside::{CallList, MemoryClock, MemorySink, MemorySource, calls_of};
 use std::alloc::Global;
 use std::process::Abort;
 use std::test::Fail;
-use test_links::LossyLink;
+use test_makers::LossyLink;
 
 // Settings of a window of one line.
 const ONE_LINE: &[u8] =

@@ -65,7 +65,8 @@ fn print_over<L: Link>(
 ) -> Result<PrintEnd, Fail>
     requires new { IsNew session.old }
     requires down { (L.state link.old).up ≡ false }
-    requires suits { SuitsAs session.old.sender.numbered (L.state link.old).past (L.state link.old).kind.oks }
+    requires suits { SuitsAs session.old.sender.numbered (L.state link.old).past
+        (L.state link.old).kind.oks }
 {
     let port = Name::of("p")?;
     let name = Name::of("a.gcode")?;

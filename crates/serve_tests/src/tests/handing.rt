@@ -1,11 +1,11 @@
 //! The ends at which asks are handed over, with workers in threads of their own.
 ghost use Rattle.std.specs.Prelude.{◌≡◌, false, None};
 ghost use Rattle.std.specs.Thread.{IsSend, IsSync};
-ghost use Rattle.hand_over.specs.Ends.{house_place, worker_place};
+ghost use Rattle.octo_serve.specs.Ends.{house_place, worker_place};
 
-use hand_over::{HouseEnd, WorkerEnd, Workers, ends};
 use octo_asks::{Answer, Ask, Asker, Closed, Counter, Next, Request};
 use octo_outside_bell::{Bell, Ear, bell_and_ear};
+use octo_serve::{HouseEnd, WorkerEnd, Workers, ends};
 use std::alloc::Global;
 use std::process::Abort;
 use std::sync::Wait;
@@ -142,7 +142,8 @@ fn is_refused<R: Wait>(worker: &mut WorkerEnd<R>, ask: Ask) -> bool
 
 // Whether one worker's asks are refused, and both see that the host has ended.
 fn see_the_end<R: Wait>(c: &mut WorkerEnd<R>, d: &mut WorkerEnd<R>, asks: (Ask, Ask)) -> bool
-    ensures { (worker_place c.new ≡ worker_place c.old) × (worker_place d.new ≡ worker_place d.old) }
+    ensures { (worker_place c.new ≡ worker_place c.old)
+        × (worker_place d.new ≡ worker_place d.old) }
 {
     let (first, second) = asks;
     let first = is_refused(c, first);

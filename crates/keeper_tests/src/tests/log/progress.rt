@@ -4,8 +4,8 @@ ghost use Rattle.printer_link.specs.Memory.{link_world};
 
 use super::{new_log, new_memory_link};
 use byte_text::{ReplyLine, bounded_text};
+use octo_log_link::{ProgressLink, Showing};
 use octo_outside::{MemoryClock, MemorySink};
-use octo_progress::{ProgressLink, Showing};
 use printer_link::{Heard, Link, MemoryLink};
 use std::alloc::Global;
 use std::process::Abort;

@@ -7,7 +7,7 @@ use Rattle.octo_commands_print.proofs.Runs.{ran, untouched, waited}
 use Rattle.octo_commands_print.proofs.print.print_job.Goals as goal
 
 pub run_print-end-requires-clause-new : goal.run_print-end-requires-clause-new
-run_print-end-requires-clause-new g c lifetimes live =
+run_print-end-requires-clause-new g c =
     let e = c.in-Ok.ensures in
     let sound = subst (λ (x : SessionData). IsSound x.sender) e.session e.sound in
     subst (λ (x : SessionData). IsNew x) (sym e.session) (record { its_desk = refl; its_sender = refl; kind = refl; sound = sound; down = refl })

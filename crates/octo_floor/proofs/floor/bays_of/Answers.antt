@@ -7,8 +7,8 @@ use Rattle.printer_model.specs.declared.event.WorldEvent.{WorldEvent}
 use Rattle.octo_session.specs.Data.{SessionData}
 use Rattle.octo_floor_bay.specs.Bay.{BayData, IsNewSession}
 use Rattle.octo_floor_bay.specs.Prints.{IsInStep}
-use Rattle.octo_floor_round_proof.specs.Floor.{AreFresh, new_bay}
-use Rattle.octo_floor_round_proof.proofs.Places.{last_or}
+use Rattle.octo_floor.specs.Floor.{AreFresh, new_bay}
+use Rattle.octo_floor.proofs.Places.{last_or}
 use Rattle.octo_floor.proofs.floor.bays_of.Goals as goal
 
 -- one bay more

@@ -1,7 +1,7 @@
 use Rattle.std.proofs.Common.{◌≡◌, ◌++◌, map}
 use Rattle.std.specs.Prelude.{All}
 use Rattle.octo_floor_bay.specs.Bay.{IsNewSession}
-use Rattle.octo_floor_round_proof.specs.Floor.{AreFresh, new_bay}
+use Rattle.octo_floor.specs.Floor.{AreFresh, new_bay}
 use Rattle.octo_floor.proofs.floor.bays_of.Given as goal
 
 -- the bays of the sessions so far, and the sessions that are left

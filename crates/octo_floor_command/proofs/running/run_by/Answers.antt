@@ -3,7 +3,7 @@ use Rattle.std.specs.Prelude.{All}
 use Rattle.printer_link.specs.Suits.{SuitsAs}
 use Rattle.octo_floor_bay.specs.Bay.{BayData, IsBay}
 use Rattle.printer_link.specs.Calls.{LinkState}
-use Rattle.octo_floor_step.specs.Objects.{StoreState, store_state}
+use Rattle.octo_floor.specs.Objects.{StoreState, store_state}
 use Rattle.octo_floor.specs.Links.{link_states}
 use Rattle.octo_floor_command.specs.Beginning.{Around, around}
 use Rattle.octo_floor_command.specs.Running.{ran}

@@ -14,7 +14,7 @@ use Rattle.octo_outside.proofs.Recorded.{became_same}
 use Rattle.octo_house_run.proofs.Contents.{begin_over, round_over, end_over}
 use Rattle.octo_house_run.proofs.Running.{begin_walks, walks_round, end_walks, tally_then, no_entry, over_by}
 use Rattle.octo_house_run.proofs.Rounds.{counted_round, counted_end, uses_round, uses_end, temps_round, temps_end_of}
-use Rattle.octo_house_print_proof.proofs.LineRecorded.{begin_in_step}
+use Rattle.octo_house_run_proof.proofs.LineRecorded.{begin_in_step}
 use Rattle.octo_house_run.proofs.Laws.{run_laws}
 use Rattle.octo_house_run.proofs.Owning.{waits_begin, waits_look, waits_none, turns_own, waits_end}
 use Rattle.octo_house_run.proofs.Printing.{run_prints}

@@ -5,9 +5,9 @@ use Rattle.octo_house_rules.specs.LinkUse.{UsesLink}
 use Rattle.octo_house_rules.specs.Shows.{Shows}
 use Rattle.octo_house_rules.specs.Temps.{NotesTemps}
 use Rattle.octo_house_run_proof.proofs.Timing.{Timed}
-use Rattle.octo_house_print_proof.specs.InStep.{InStep}
+use Rattle.octo_house_run_proof.specs.InStep.{InStep}
 use Rattle.octo_house_tables.specs.Kept.{KeepsRows}
-use Rattle.octo_house_contents.specs.Contents.{OnSome, WalksOver}
+use Rattle.octo_house_laws.specs.OverContents.{OnSome, WalksOver}
 use Rattle.octo_house_rules.specs.Walks.{Walks}
 use Rattle.octo_house.specs.State.{IsListed, session_of, tables_of}
 use Rattle.octo_house_run.specs.Own.{AsksOfWorkers, Waits, own_moments}

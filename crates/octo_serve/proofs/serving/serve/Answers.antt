@@ -1,7 +1,7 @@
 use Rattle.std.proofs.Common.{of_calls, rules, List, ap, subst}
 use Rattle.octo_asks.specs.History.{History}
-use Rattle.hand_over.specs.Ends.{HouseData, WorkerData}
-use Rattle.hand_over.specs.Views.{AreCalls}
+use Rattle.octo_serve.specs.Ends.{HouseData, WorkerData}
+use Rattle.octo_serve.specs.Views.{AreCalls}
 use Rattle.octo_serve.proofs.Ending.{all_served, own_from_nothing, ran_from_nothing}
 use Rattle.octo_serve.proofs.Leaving.{hosts}
 use Rattle.octo_serve.proofs.serving.serve.Goals as goal

@@ -21,9 +21,9 @@ use Rattle.octo_session_print.specs.BetweenTurns.{GoesOn}
 use Rattle.octo_session_print.specs.declared.end.PrintEnd.{PrintEnd}
 use Rattle.octo_session_print.proofs.Steps.{HasTurned, turn_goes, turn_free}
 use Rattle.octo_session_print.proofs.Follows.{follows, fact_by, calls_of}
-use Rattle.octo_session_plan_proof.proofs.Turns.{HasTurned as IsPromptTurn}
-use Rattle.octo_session_plan_proof.proofs.Leads.{turn_leads}
-use Rattle.octo_session_plan_proof.proofs.Smooth.{poll_later, range_moment}
+use Rattle.octo_session_print.proofs.Turns.{HasTurned as IsPromptTurn}
+use Rattle.octo_session_print.proofs.Leads.{turn_leads}
+use Rattle.octo_session_print.proofs.Smooth.{poll_later, range_moment}
 use Rattle.octo_session_print.specs.Enough.{LeavesOnWay}
 use Rattle.octo_session_print.proofs.Prompting.{leads_left}
 use Rattle.octo_session_print.proofs.print.make_turn.Goals as goal

@@ -4,7 +4,7 @@ use Rattle.octo_outside.proofs.Recorded.{rose_after, steady_after}
 use Rattle.printer_link.specs.Link.{LinkKind, RoseBy, Grows, IsHangUp}
 use Rattle.printer_link.proofs.Calls.{rose_none, rose_then}
 use Rattle.octo_session.specs.Data.{port_of}
-use Rattle.octo_session_plan_proof.specs.Plan.{print_commands}
+use Rattle.octo_session_print.specs.Plan.{print_commands}
 use Rattle.octo_session.specs.Plan.{plan}
 use Rattle.octo_session_print.specs.Printed.{IsOver}
 use Rattle.octo_session_print.specs.BetweenTurns.{IsOnLink}
@@ -12,8 +12,8 @@ use Rattle.octo_session_print.specs.declared.end.PrintEnd.TheVariants as end
 use Rattle.octo_session_line_proof.proofs.Waits.{in_time, on_time_next}
 use Rattle.octo_session_print.proofs.Printing.{waited_by}
 use Rattle.octo_session_print.proofs.Loops.{suits_still, under, awake, unstarted_in, found_unlisted, unlisted_first, same_turns, hung_over}
-use Rattle.octo_session_plan_proof.specs.OnWay.{IsOnWay, plan_length}
-use Rattle.octo_session_plan_proof.proofs.Smooth.{shown_before, last_is, smooth_before, range_now, not_used}
+use Rattle.octo_session_print.specs.OnWay.{IsOnWay, plan_length}
+use Rattle.octo_session_print.proofs.Smooth.{shown_before, last_is, smooth_before, range_now, not_used}
 use Rattle.octo_session_print.proofs.Prompting.{sets_out}
 use Rattle.octo_session_print.proofs.print.make_turns.Goals as goal
 

@@ -1,12 +1,12 @@
 use Rattle.std.proofs.Common.{◌≡◌, ◌<◌, ◌≤◌, ◌+◌, ◌-◌, ℕ, false, Some}
 use Rattle.printer_link.specs.Link.{RoseBy}
 use Rattle.octo_session.specs.Data.{port_of}
-use Rattle.octo_session_plan_proof.specs.Plan.{PrintData}
+use Rattle.octo_session_print.specs.Plan.{PrintData}
 use Rattle.send_window.specs.Data.{most_lines}
 use Rattle.octo_session_print.specs.BetweenTurns.{IsDialling}
 use Rattle.octo_session_line_proof.specs.Patience.{IsOnTime}
 use Rattle.octo_session_print.proofs.Loops.{IsAfter}
-use Rattle.octo_session_plan_proof.specs.OnWay.{IsOnWay, plan_length}
+use Rattle.octo_session_print.specs.OnWay.{IsOnWay, plan_length}
 use Rattle.octo_session.specs.Smooth.{IsSmooth}
 use Rattle.octo_session_print.proofs.print.make_turns.Given as goal
 

@@ -4,7 +4,7 @@ ghost use Rattle.printer_link.specs.Memory.{link_world};
 
 use super::*;
 use octo_outside::calls_of;
-use test_links::LossyLink;
+use test_makers::LossyLink;
 
 // The call of the link that fails, and how many lines were sent and executed before it.
 #[derive(Clone, Copy)]

@@ -4,7 +4,7 @@ ghost use Rattle.std.specs.Prelude.{◌≤◌};
 use super::super::makers::{check_commands, losing_link, session_of};
 use super::*;
 use octo_outside::calls_of;
-use test_links::LossyLink;
+use test_makers::LossyLink;
 
 // A file of six commands.
 const SIX_LINES: &str = "G28\nG1 X1\nG1 X2\nG1 X3\nG1 X4\nG1 X5\n";

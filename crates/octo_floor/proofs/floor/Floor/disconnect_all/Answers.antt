@@ -1,6 +1,6 @@
 use Rattle.std.proofs.Common.{◌≡◌, ℕ, length, subst, arith}
-use Rattle.octo_floor_run_proof.specs.Leaving.{AreDisconnected}
-use Rattle.octo_floor_run_proof.proofs.Leaves.{disconnected_more}
+use Rattle.octo_floor.specs.Leaving.{AreDisconnected}
+use Rattle.octo_floor.proofs.Leaves.{disconnected_more}
 use Rattle.octo_floor.proofs.floor.Floor.disconnect_all.Goals as goal
 
 pub loop-printer-preserved : goal.loop-printer-preserved

@@ -1,5 +1,5 @@
 use Rattle.std.proofs.Common.{◌≡◌, length}
-use Rattle.octo_floor_run_proof.specs.Leaving.{AreDisconnected}
+use Rattle.octo_floor.specs.Leaving.{AreDisconnected}
 use Rattle.octo_floor.proofs.floor.Floor.disconnect_all.Given as goal
 
 -- the printers so far are disconnected

@@ -1,12 +1,12 @@
 use Rattle.std.proofs.Common.{rules, ◌≡◌, ◌<◌, ◌≤◌, true, length, refl, subst, arith}
 use Rattle.std.proofs.lemmas.Option.{slice_get_within}
 use Rattle.octo_floor_bay.specs.Bay.{BayData}
-use Rattle.octo_floor_step.specs.Phases.{IsAtRest}
-use Rattle.octo_floor_round_proof.specs.Floor.{FloorData, IsFloor}
-use Rattle.octo_floor_run_proof.specs.Run.{has_left}
-use Rattle.octo_floor_round_proof.proofs.Floors.{all_at}
-use Rattle.octo_floor_run_proof.proofs.Leaves.{left_idle}
-use Rattle.octo_floor_round_proof.proofs.Places.{place}
+use Rattle.octo_floor.specs.Phases.{IsAtRest}
+use Rattle.octo_floor.specs.Floor.{FloorData, IsFloor}
+use Rattle.octo_floor.specs.Run.{has_left}
+use Rattle.octo_floor.proofs.Floors.{all_at}
+use Rattle.octo_floor.proofs.Leaves.{left_idle}
+use Rattle.octo_floor.proofs.Places.{place}
 use Rattle.octo_floor.proofs.floor.Floor.is_over.Goals as goal
 
 pub returns-then-not-is_idle-clause-no : goal.returns-then-not-is_idle-clause-no

@@ -1,7 +1,7 @@
 use Rattle.std.proofs.Common.{◌≡◌, ◌<◌, ℕ, List, Some}
 use Rattle.std.specs.Prelude.{slice_get}
 use Rattle.octo_floor_bay.specs.Bay.{BayData}
-use Rattle.octo_floor_run_proof.specs.Leaving.{IsIdle}
+use Rattle.octo_floor.specs.Leaving.{IsIdle}
 use Rattle.octo_floor.proofs.floor.Floor.is_over.Given as goal
 
 -- the printers so far are idle

@@ -1,8 +1,8 @@
 use Rattle.std.proofs.Common.{rules, ◌≡◌, ℕ, List, false, length, map, sym, ◌∙◌, ap, subst}
 use Rattle.octo_floor_bay.specs.Bay.{BayData}
-use Rattle.octo_floor_step.specs.Ledger.{LedgerData}
-use Rattle.octo_floor_round_proof.specs.Floor.{FloorData, IsFloor, new_bay, new_floor}
-use Rattle.octo_floor_round_proof.proofs.News.{new_is_floor}
+use Rattle.octo_floor.specs.Ledger.{LedgerData}
+use Rattle.octo_floor.specs.Floor.{FloorData, IsFloor, new_bay, new_floor}
+use Rattle.octo_floor.proofs.News.{new_is_floor}
 use Rattle.octo_floor.proofs.floor.Floor.new.Goals as goal
 
 pub invariant_of-result : goal.invariant_of-result

@@ -1,10 +1,10 @@
 use Rattle.std.proofs.Common.{subst}
-use Rattle.octo_floor_rules.proofs.Numbers.{numbers_differ}
-use Rattle.octo_floor_step.specs.Objects.{store_state}
-use Rattle.octo_floor_round_proof.specs.Floor.{FloorData, IsFloor, setting}
+use Rattle.octo_floor_bay.proofs.Numbers.{numbers_differ}
+use Rattle.octo_floor.specs.Objects.{store_state}
+use Rattle.octo_floor.specs.Floor.{FloorData, IsFloor, setting}
 use Rattle.octo_floor.specs.Links.{link_states}
-use Rattle.octo_floor_round_proof.proofs.Goes.{GoesWell, well_round}
-use Rattle.octo_floor_round_proof.proofs.Idle.{idle_round}
+use Rattle.octo_floor.proofs.Goes.{GoesWell, well_round}
+use Rattle.octo_floor.proofs.Idle.{idle_round}
 use Rattle.octo_floor.proofs.floor.Floor.round.Given as given
 use Rattle.octo_floor.proofs.floor.Floor.round.Goals as goal
 

@@ -1,10 +1,10 @@
 use Rattle.std.proofs.Common.{◌≡◌, ◌||◌, ℕ, length, true, refl, ap, subst, arith}
 use Rattle.printer_link.specs.Calls.{LinkState}
-use Rattle.octo_floor_step.specs.Objects.{store_state, StoreState}
-use Rattle.octo_floor_round_proof.specs.Floor.{FloorData, Setting, setting}
+use Rattle.octo_floor.specs.Objects.{store_state, StoreState}
+use Rattle.octo_floor.specs.Floor.{FloorData, Setting, setting}
 use Rattle.octo_floor.specs.Links.{link_states}
-use Rattle.octo_floor_round_proof.specs.Round.{Steps}
-use Rattle.octo_floor_round_proof.proofs.Rounds.{at_up, steps_bays, steps_more}
+use Rattle.octo_floor.specs.Round.{Steps}
+use Rattle.octo_floor.proofs.RoundParts.{at_up, steps_bays, steps_more}
 use Rattle.octo_floor.proofs.floor.Floor.round_into.Goals as goal
 
 pub step_at-heard-requires-clause-within : goal.step_at-heard-requires-clause-within

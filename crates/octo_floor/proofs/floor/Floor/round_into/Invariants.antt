@@ -1,8 +1,8 @@
 use Rattle.std.proofs.Common.{◌≡◌, ◌*◌, ◌≤◌, length}
-use Rattle.octo_floor_step.specs.Objects.{store_state}
-use Rattle.octo_floor_round_proof.specs.Floor.{setting, IsFloor, AreUp}
+use Rattle.octo_floor.specs.Objects.{store_state}
+use Rattle.octo_floor.specs.Floor.{setting, IsFloor, AreUp}
 use Rattle.octo_floor.specs.Links.{link_states}
-use Rattle.octo_floor_round_proof.specs.Round.{Steps}
+use Rattle.octo_floor.specs.Round.{Steps}
 use Rattle.octo_floor.proofs.floor.Floor.round_into.Given as goal
 
 -- the parts of the printers so far

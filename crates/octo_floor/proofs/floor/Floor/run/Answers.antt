@@ -1,19 +1,19 @@
 use Rattle.std.proofs.Common.{◌+◌, refl, sym, ◌∙◌, subst, arith}
 use Rattle.std.proofs.lemmas.Bool.{false≢true}
-use Rattle.octo_floor_rules.specs.Events.{FloorHistory}
-use Rattle.octo_floor_rules.proofs.Numbers.{numbers_differ}
+use Rattle.octo_floor_bay.specs.Events.{FloorHistory}
+use Rattle.octo_floor_bay.proofs.Numbers.{numbers_differ}
 use Rattle.printer_link.specs.Calls.{LinkState}
-use Rattle.octo_floor_step.specs.Objects.{StoreState, store_state}
+use Rattle.octo_floor.specs.Objects.{StoreState, store_state}
 use Rattle.octo_floor.specs.Fields.{floor_of}
-use Rattle.octo_floor_round_proof.specs.Floor.{FloorData, Setting, setting, AreUp}
+use Rattle.octo_floor.specs.Floor.{FloorData, Setting, setting, AreUp}
 use Rattle.octo_floor.specs.Links.{link_states}
-use Rattle.octo_floor_round_proof.specs.Points.{GoesOn}
-use Rattle.octo_floor_run_proof.specs.Rounds.{HasRounds}
-use Rattle.octo_floor_run_proof.specs.Run.{IsOpen, HaveLeft}
-use Rattle.octo_floor_run_proof.proofs.Called.{called_first, called_on, called_bound, goes_on}
-use Rattle.octo_floor_round_proof.proofs.Goes.{GoesWell}
-use Rattle.octo_floor_run_proof.proofs.Rounds.{HaveMade, made_first, made_on, rounds_over, rounds_used}
-use Rattle.octo_floor_run_proof.proofs.Running.{IsAfter, IsLeaving, ran_on, run_begins, run_first, ends_for}
+use Rattle.octo_floor.specs.Points.{GoesOn}
+use Rattle.octo_floor.specs.Rounds.{HasRounds}
+use Rattle.octo_floor.specs.Run.{IsOpen, HaveLeft}
+use Rattle.octo_floor.proofs.Called.{called_first, called_on, called_bound, goes_on}
+use Rattle.octo_floor.proofs.Goes.{GoesWell}
+use Rattle.octo_floor.proofs.Rounds.{HaveMade, made_first, made_on, rounds_over, rounds_used}
+use Rattle.octo_floor.proofs.Running.{IsAfter, IsLeaving, ran_on, run_begins, run_first, ends_for}
 use Rattle.octo_floor.proofs.floor.Floor.run.Given as given
 use Rattle.octo_floor.proofs.floor.Floor.run.Goals.{else-leaves-via-then-leaves+else-have_left, else-leaves-via-else-leaves}
 use Rattle.octo_floor.proofs.floor.Floor.run.Goals as goal

@@ -1,13 +1,13 @@
 use Rattle.std.proofs.Common.{◌≡◌, true, false}
-use Rattle.octo_floor_rules.specs.Events.{FloorHistory}
-use Rattle.octo_floor_step.specs.Objects.{store_state}
-use Rattle.octo_floor_round_proof.specs.Floor.{setting}
+use Rattle.octo_floor_bay.specs.Events.{FloorHistory}
+use Rattle.octo_floor.specs.Objects.{store_state}
+use Rattle.octo_floor.specs.Floor.{setting}
 use Rattle.octo_floor.specs.Links.{link_states}
-use Rattle.octo_floor_run_proof.specs.Run.{IsOpen}
-use Rattle.octo_floor_run_proof.proofs.Called.{IsCalled}
-use Rattle.octo_floor_round_proof.proofs.Goes.{GoesWell}
-use Rattle.octo_floor_run_proof.proofs.Rounds.{HaveMade}
-use Rattle.octo_floor_run_proof.proofs.Running.{IsLeaving}
+use Rattle.octo_floor.specs.Run.{IsOpen}
+use Rattle.octo_floor.proofs.Called.{IsCalled}
+use Rattle.octo_floor.proofs.Goes.{GoesWell}
+use Rattle.octo_floor.proofs.Rounds.{HaveMade}
+use Rattle.octo_floor.proofs.Running.{IsLeaving}
 use Rattle.octo_floor.proofs.floor.Floor.run.Given as goal
 
 -- the rounds so far, by whose events the floor went on; until it leaves its printers stay open, and then they are gone

@@ -1,7 +1,7 @@
 use Rattle.std.proofs.Common.{rules, ◌≡◌, ◌≤◌, ℕ, List, length, sym, ap, subst}
 use Rattle.std.specs.Prelude.{slice_get, slice_set}
 use Rattle.printer_link.specs.Calls.{LinkState}
-use Rattle.octo_floor_round_proof.specs.Floor.{FloorData}
+use Rattle.octo_floor.specs.Floor.{FloorData}
 use Rattle.octo_floor.specs.Links.{link_states}
 use Rattle.octo_floor.proofs.floor.Floor.step_at.Given as given
 use Rattle.octo_floor.proofs.floor.Floor.step_at.Goals as goal

@@ -1,11 +1,11 @@
 use Rattle.std.proofs.Common.{◌≡◌, ◌<◌, ℕ, List, length, get_or, Some, refl, sym, subst, arith}
 use Rattle.std.specs.Prelude.{slice_get, slice_set}
 use Rattle.std.proofs.lemmas.Option.{slice_get_read}
-use Rattle.octo_floor_step.specs.Objects.{store_state}
+use Rattle.octo_floor.specs.Objects.{store_state}
 use Rattle.octo_floor.specs.Fields.{floor_of}
-use Rattle.octo_floor_round_proof.specs.Floor.{FloorData}
-use Rattle.octo_floor_round_proof.specs.Round.{IsStepOver}
-use Rattle.octo_floor_round_proof.proofs.Floors.{floor_after}
+use Rattle.octo_floor.specs.Floor.{FloorData}
+use Rattle.octo_floor.specs.Round.{IsStepOver}
+use Rattle.octo_floor.proofs.Floors.{floor_after}
 use Rattle.octo_floor.proofs.floor.Floor.step_over.Given as given
 use Rattle.octo_floor.proofs.floor.Floor.step_over.Goals as goal
 

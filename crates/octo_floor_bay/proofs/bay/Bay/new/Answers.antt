@@ -1,5 +1,5 @@
 use Rattle.std.proofs.Common.{◌≡◌, [], List, Some, sym, subst}
-use Rattle.octo_house_print_proof.proofs.LineRecorded.{begin_in_step}
+use Rattle.octo_house_run_proof.proofs.LineRecorded.{begin_in_step}
 use Rattle.octo_floor_bay.specs.Prints.{IsInStep}
 use Rattle.octo_floor_bay.specs.declared.deed.Deed.{Deed}
 use Rattle.octo_floor_bay.proofs.Leading.{bay_with}

@@ -1,5 +1,5 @@
 use Rattle.std.proofs.Common.{◌≡◌, false, None}
-use Rattle.hand_over.specs.Ends.{house_place}
+use Rattle.octo_serve.specs.Ends.{house_place}
 use Rattle.serve_tests.proofs.tests.handing.answer_all.Given as goal
 
 -- every ask that was taken is answered, and the host runs

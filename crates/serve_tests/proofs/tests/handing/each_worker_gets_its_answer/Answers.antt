@@ -1,6 +1,6 @@
 use Rattle.std.proofs.Common.{ap, ◌∙◌}
-use Rattle.hand_over.specs.Ends.{worker_place}
-use Rattle.hand_over.proofs.Joining.{seat_beside}
+use Rattle.octo_serve.specs.Ends.{worker_place}
+use Rattle.octo_serve.proofs.Joining.{seat_beside}
 use Rattle.serve_tests.proofs.tests.handing.each_worker_gets_its_answer.Goals as goal
 
 pub end-requires-clause-a : goal.end-requires-clause-a

@@ -1,7 +1,0 @@
-use Rattle.std.proofs.Common.{◌≡◌}
-use Rattle.hand_over.specs.Ends.{AfterLooks}
-use Rattle.hand_over.proofs.house_end.HouseEndCounter.next.Given as goal
-
--- the words that were looked at showed no ask
-abbrev pub invariant-loop-step : goal.invariant-loop-step
-invariant-loop-step l = (l.self ≡ record l.fn.self { view = l.self.view }) × AfterLooks l.first l.step l.fn.self.view l.self.view

@@ -1,4 +1,0 @@
-pub mod Ends
-pub mod Rule
-pub mod Steps
-pub mod Views

@@ -1,2 +1,0 @@
--- The words of the contracts about the page.
-pub mod Pages

@@ -1,4 +1,0 @@
-pub mod Floor
-pub mod Points
-pub mod Round
-pub mod Tables

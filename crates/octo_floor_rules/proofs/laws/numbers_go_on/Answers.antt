@@ -1,5 +1,0 @@
-use Rattle.octo_floor_rules.proofs.Numbers.{numbers_go_on}
-use Rattle.octo_floor_rules.proofs.laws.numbers_go_on.Goals as goal
-
-pub returns : goal.returns
-returns c = numbers_go_on

@@ -1,5 +1,0 @@
-pub mod Counted
-pub mod Faults
-pub mod Phases
-pub mod Taking
-pub mod Turning

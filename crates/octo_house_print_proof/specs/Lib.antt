@@ -1,4 +1,0 @@
-pub mod InStep
-pub mod Laws
-pub mod Prints
-pub mod Tied

@@ -1,5 +1,0 @@
-pub mod Draws
-pub mod Fates
-pub mod File
-pub mod Run
-pub mod Summary
