@@ -2,7 +2,6 @@
 ghost use Rattle.std.specs.Prelude.{IfOk};
 ghost use Rattle.octo_outside_doors.specs.Memory.{IsUntouched};
 
-mod clients;
 mod replies;
 mod requests;
 mod routes;

@@ -39,6 +39,7 @@ impl Keeper for FileKeeper {
     ghost use Rattle.sqlite.specs.Files.{file_state, over_files};
     ghost use Rattle.sqlite.specs.State.{HasCleanDisk};
     ghost use Rattle.octo_outside.specs.Recorded.{Counts};
+    ghost use Rattle.octo_keeper.specs.Calls.{Commits as KeeperCommits};
     ghost use Rattle.octo_keeper.specs.Tables.{AreSound};
     ghost use Rattle.octo_keeper.specs.declared.keeper.KeeperFault.TheVariants as fault;
     ghost use Rattle.octo_keeper_sql.specs.Holds.{HasGroups};
@@ -83,10 +84,11 @@ impl Keeper for FileKeeper {
         ensures atomic { IsAtomic over_files (RanInTurn over_files (statements change.now))
             self.old.database.connection self.new.database.connection }
 
-        ensures counts { Counts (IsErrOf result fault.Failed)
-            self.old.database.faults self.new.database.faults }
-        ensures steady { (IsErrOf result fault.Failed → ⊥)
-            → self.new.database.faults ≡ self.old.database.faults }
+        // What every keeper says.
+        ensures commits { KeeperCommits
+            (record { tables = None; saved = None; faults = self.old.database.faults })
+            change.now result
+            (record { tables = None; saved = None; faults = self.new.database.faults }) }
     {
         self.database.commit(alloc, change)
     }

@@ -43,13 +43,9 @@ impl<K: Keeper + Drop> Opened<K> {
 }
 
 impl<K: Keeper + Drop> Keeper for Opened<K> {
-    ghost use Rattle.octo_serve_command.specs.Opened.{tables_of, faults_of};
+    ghost use Rattle.octo_serve_command.specs.Opened.{opened_state};
 
-    ghost state = { λ o. record {
-      tables = tables_of (K.state o.keeper).tables;
-      saved = tables_of (K.state o.keeper).saved;
-      faults = faults_of (K.state o.keeper).faults o.faults;
-    } };
+    ghost state = { λ o. opened_state K.state o.keeper o.faults };
 
     fn load(&mut self, alloc: Global) -> Result<Tables, KeeperFault> {
         match &mut self.keeper {

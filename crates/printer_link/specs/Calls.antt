@@ -36,7 +36,7 @@ pub record Sends (old : LinkState) (line : List ℕ) (result : Result (Unit {0})
   pub past : OnOk result (Grows old.kind old.past new.past (IsSend line))
   pub past_failed : OnErr result (Grows old.kind old.past new.past IsSendLoss)
   pub past_prompt : old.kind.prompt ≡ true
-    → OnOk result (Grows old.kind old.past new.past (λ w added. (sent : WorldEvent) × (added ≡ sent ∷ []) × IsSendOf line sent))
+      → OnOk result (Grows old.kind old.past new.past (λ w added. (sent : WorldEvent) × (added ≡ sent ∷ []) × IsSendOf line sent))
   pub no_port : IsErrOf result fault.NoPort → ⊥
   pub up : OnOk result (new.up ≡ true)
   pub down : OnErr result (new.up ≡ false)

@@ -2,14 +2,14 @@
 use Rattle.std.proofs.Common.{◌≡◌, ℕ, false, List, [], ◌∷◌, All, sym, subst, ◌∙◌}
 use Rattle.std.proofs.lemmas.List.Elements.{All-nil, All-cons, All-map}
 use Rattle.print_queue.specs.declared.entry.QueueEntry.{QueueEntry}
-use Rattle.printer_link.specs.Memory.{MemoryLinkData}
+use Rattle.printer_link.specs.Memory.{MemoryLinkData, link_state}
 use Rattle.octo_session.specs.Data.{SessionData}
 use Rattle.octo_floor.specs.declared.links.Links.{Links}
 use Rattle.octo_floor_bay.specs.Bay.{BayData, IsNewSession}
 use Rattle.octo_floor.specs.Floor.{AreUp, FloorData, new_bay, new_floor}
 use Rattle.octo_floor.proofs.Floors.{all_at}
 use Rattle.printer_link.specs.Calls.{LinkState}
-use Rattle.test_makers.specs.Links.{AreDown, AreOffline, memory_state, memory_states}
+use Rattle.test_makers.specs.Links.{AreDown, AreOffline, memory_states}
 
 -- no session of a new floor has a link
 down : (sessions : List SessionData) → All IsNewSession sessions → All (λ s. (new_bay s).session.up ≡ false) sessions
@@ -22,7 +22,7 @@ IsUnmade l = l.up ≡ false
 -- none of the links is made
 unmade : (links : Links MemoryLinkData) → AreDown links → All IsUnmade (memory_states links)
 unmade links are =
-    let s : MemoryLinkData → LinkState = memory_state in
+    let s : MemoryLinkData → LinkState = link_state in
     let none : List LinkState = [] in
     let h : List LinkState = s links.h ∷ none in
     let g : List LinkState = s links.g ∷ h in

@@ -1,18 +1,14 @@
 -- The links of a floor in memory.
-use Rattle.std.specs.Prelude.{◌≡◌, false, Some, List, All}
+use Rattle.std.specs.Prelude.{◌≡◌, false, List, All}
 use Rattle.octo_floor_bay.specs.Bay.{BayData}
 use Rattle.printer_link.specs.Calls.{LinkState}
 use Rattle.octo_floor.specs.Links.{link_states}
 use Rattle.octo_floor.specs.declared.links.Links.{Links}
-use Rattle.printer_link.specs.Memory.{MemoryLinkData, link_kind, link_world}
+use Rattle.printer_link.specs.Memory.{MemoryLinkData, link_state, link_world}
 
--- a link in memory as what it says of itself
-abbrev pub memory_state : MemoryLinkData → LinkState
-memory_state = link_state link_kind (λ l. Some l.story.past) (λ l. Some l.calls) (λ l. (link_world l).linked) (λ l. l.faults)
-
--- the links of a floor
+-- the links of a floor in memory, as what they say of themselves
 abbrev pub memory_states : Links MemoryLinkData → List LinkState
-memory_states = link_states memory_state
+memory_states = link_states link_state
 
 -- a link isn't made
 abbrev pub IsDown : MemoryLinkData → Type 0

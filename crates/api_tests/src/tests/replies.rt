@@ -1,14 +1,11 @@
-//! Replies, compared with what an independent model of the interface wrote.
-mod refused;
-mod shown;
-mod states;
+//! Replies, compared with what an independent model of the interface wrote: those that a host doesn't show to a peer.
+//! scripts/process/api/replies.txt has the others.
+mod unseen;
 mod written;
 
 use byte_text::Name;
-use job_desk::State;
-use octo_access::Permission;
 use octo_api_replies::to_bytes;
-use octo_asks::{Answer, ShownEntry, ShownEntryList, StoredCause};
+use octo_asks::{Answer, ShownEntry};
 use octo_http::ReplyKind;
 use octo_outside::Blob;
 use std::alloc::{AllocError, Global};

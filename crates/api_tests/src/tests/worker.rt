@@ -1,23 +1,18 @@
-//! A worker at a door in memory, whose asks are answered by a list of answers.
+//! A worker at a door in memory: doors, connections and hosts that fail, and files that are staged. scripts/process/api/worker.txt
+//! has what a peer sees.
 ghost use Rattle.std.specs.Prelude.{None, All, IfOk};
 ghost use Rattle.octo_asks.specs.Place.{no_place};
 ghost use Rattle.octo_outside_doors.specs.Memory.{IsUntouched};
 
-mod hostile;
-mod methods;
 mod origins;
-mod page;
-mod shown;
 mod staging;
-mod strangers;
 
 use super::conn_of;
 use byte_text::Name;
-use job_desk::State;
 use octo_access::GroupNames;
 use octo_api_routes::Routes;
 use octo_api_worker::{Terms, serve_conn, worker};
-use octo_asks::{Answer, Ask, Asker, Closed, Request, ShownHeat};
+use octo_asks::{Answer, Ask, Asker, Closed, Request};
 use octo_keeper::NoStager;
 use octo_outside::{CallList, MemoryConn, NameList, calls_of};
 use octo_outside_doors::{ConnList, MemoryDoor};
@@ -54,13 +49,6 @@ fn terms(alloc: Global) -> Terms {
     }
 }
 
-// The group of users.
-fn users() -> GroupNames {
-    let mut groups = GroupNames::new();
-    groups.push(Name::of_short("users"));
-    groups
-}
-
 // What the host answers to a request.
 fn answer_to(request: &Request) -> Answer {
     match request {
@@ -70,21 +58,9 @@ fn answer_to(request: &Request) -> Answer {
             select: false,
             print: false,
         },
-        Request::GetPrinter => Answer::Printer {
-            state: State::Operational,
-            tool: Some(ShownHeat {
-                actual: 215,
-                target: 215,
-            }),
-            bed: None,
-        },
         Request::Caller => Answer::Caller {
             name: Some(Name::of_short("ana")),
-            groups: users(),
-        },
-        Request::GetLimits => Answer::Limits {
-            tool: 300,
-            bed: 120,
+            groups: GroupNames::new(),
         },
         Request::Leave => Answer::Accepted,
         _ => Answer::NoFile,
@@ -205,27 +181,6 @@ fn works(
     Ok(())
 }
 
-// A request, an unknown path, no request, a peer that goes away after the target of its message, and a request.
-fn five_conns(alloc: Global) -> Result<ConnList, AllocError>
-    ensures { IfOk result (λ all. All IsUntouched all) }
-{
-    let conns = with_conn(alloc, ConnList::new(alloc), VERSION)?;
-    let conns = with_conn(alloc, conns, b"GET /api/nothing HTTP/1.1\r\n\r\n")?;
-    let conns = with_conn(alloc, conns, b"what is this\r\n\r\n")?;
-    let conns = with_conn(alloc, conns, b"GET /api/version HT")?;
-    with_conn(alloc, conns, VERSION)
-}
-
-// A peer that goes away after the target of its message gets no reply.
-#[test]
-fn replies_and_leaves(rt: HostRuntime) -> Result<(), Fail> {
-    let alloc = rt.alloc();
-    let quiet_at = calls_of(alloc, &[2])?;
-    let door = MemoryDoor::new(alloc, five_conns(alloc)?, quiet_at, CallList::new(alloc));
-    let wanted = (true, b"200 404 400 - 200 ".as_slice(), (3, 1));
-    works(&rt, alloc, door, Host::open_for(10), wanted)
-}
-
 // Once the host has ended, the connection at hand is answered so, and no other one is accepted.
 #[test]
 fn a_host_that_ends(rt: HostRuntime) -> Result<(), Fail> {
@@ -236,6 +191,30 @@ fn a_host_that_ends(rt: HostRuntime) -> Result<(), Fail> {
     let door = door_of(alloc, conns);
     let wanted = (true, b"200 503 ".as_slice(), (1, 0));
     works(&rt, alloc, door, Host::open_for(1), wanted)
+}
+
+// A long body, before which it is asked whom the key names.
+const LONG: &[u8] =
+    b"POST /api/files/local HTTP/1.1\r\nX-Api-Key: k\r\nContent-Length: 4097\r\n\r\n";
+
+// A host that has ended before it says whom the key names.
+#[test]
+fn a_host_that_has_ended(rt: HostRuntime) -> Result<(), Fail> {
+    let alloc = rt.alloc();
+    let mut conn = conn_of(alloc, LONG)?;
+    let mut host = Host::open_for(0);
+    let routes = Routes::new(alloc)?;
+    let is_open = serve_conn(
+        alloc,
+        &routes,
+        &mut conn,
+        &mut host,
+        &mut NoStager::new(0),
+        &terms(alloc),
+    );
+    let written = conn.written().unwrap_or(b"");
+    assert!(rt; !is_open && written.get(9..12) == Some(b"503".as_slice()));
+    Ok(())
 }
 
 // The second accept fails: the worker leaves, and says that its door failed.
@@ -250,35 +229,20 @@ fn a_door_that_fails(rt: HostRuntime) -> Result<(), Fail> {
     works(&rt, alloc, door, Host::open_for(10), wanted)
 }
 
-// A connection with this input; of its calls, these find nothing and these fail.
-fn faulty_conn(
-    alloc: Global,
-    input: &[u8],
-    quiet: &[u64],
-    failing: &[u64],
-) -> Result<ConnList, AllocError>
+// A connection with this input, of whose calls this one fails.
+fn faulty_conn(alloc: Global, input: &[u8], number: u64) -> Result<ConnList, AllocError>
     ensures { IfOk result (λ all. All IsUntouched all) }
 {
-    let quiet_at = calls_of(alloc, quiet)?;
-    let conn = MemoryConn::new(alloc, input, quiet_at, calls_of(alloc, failing)?)?;
+    let fail_at = calls_of(alloc, &[number])?;
+    let conn = MemoryConn::new(alloc, input, CallList::new(alloc), fail_at)?;
     let mut conns = ConnList::new(alloc);
     conns.push(conn)?;
     Ok(conns)
 }
 
-// A peer that sends half a message and then nothing is answered that it is too slow.
-#[test]
-fn a_slow_peer(rt: HostRuntime) -> Result<(), Fail> {
-    let alloc = rt.alloc();
-    let conns = faulty_conn(alloc, VERSION, &[1, 2, 3], &[])?;
-    let door = door_of(alloc, conns);
-    let wanted = (true, b"408 ".as_slice(), (1, 1));
-    works(&rt, alloc, door, Host::open_for(10), wanted)
-}
-
 // A door with an upload, of whose connection this call fails, and another message.
 fn upload_door(alloc: Global, number: u64) -> Result<MemoryDoor, AllocError> {
-    let conns = faulty_conn(alloc, UPLOAD, &[], &[number])?;
+    let conns = faulty_conn(alloc, UPLOAD, number)?;
     let conns = with_conn(alloc, conns, VERSION)?;
     Ok(door_of(alloc, conns))
 }

@@ -105,14 +105,14 @@ returns-clause-serves g c =
     let u = c.unserved-in-Err-serve in
     let link_at = g.L.Link.state in
     let doors_at = g.D.Door.state in
-    let link_faults : (g.L.Link.state c.serve.new.link).faults ≡ (g.L.Link.state c.args.link.now).faults = ap (g.L.Link.state s.link).faults in
-    let keeper_faults : (g.K.Keeper.state c.serve.new.keeper).faults ≡ (g.K.Keeper.state c.begin_by.new.keeper).faults = ap (g.K.Keeper.state s.keeper).faults in
-    let shelf_faults : (g.S.Shelf.state c.serve.new.shelf).faults ≡ (g.S.Shelf.state c.begin_by.new.shelf).faults = ap (g.S.Shelf.state s.shelf).faults in
+    let link_faults : (g.L.Link.state c.serve.new.link).faults ≡ (g.L.Link.state c.args.link.now).faults = ap (λ x. (g.L.Link.state x).faults) s.link in
+    let keeper_faults : (g.K.Keeper.state c.serve.new.keeper).faults ≡ (g.K.Keeper.state c.begin_by.new.keeper).faults = ap (λ x. (g.K.Keeper.state x).faults) s.keeper in
+    let shelf_faults : (g.S.Shelf.state c.serve.new.shelf).faults ≡ (g.S.Shelf.state c.begin_by.new.shelf).faults = ap (λ x. (g.S.Shelf.state x).faults) s.shelf in
     not_served c.args.settings _ _ fault.NoMemory _ _ (ap (λ (h : HostEnd). h.report) u.ensures) (ap (λ (h : HostEnd). h.history) u.ensures) (record {
       link = ap link_at s.link;
       moment = ap g.T.Clock.moment s.clock;
-      tables = ap (g.K.Keeper.state s.keeper).tables ∙ e.tables;
-      files = ap (g.S.Shelf.state s.shelf).files ∙ e.files;
+      tables = ap (λ x. (g.K.Keeper.state x).tables) s.keeper ∙ e.tables;
+      files = ap (λ x. (g.S.Shelf.state x).files) s.shelf ∙ e.files;
       doors = ap (door_states doors_at) s.doors;
       later = record { link = omega (arith, link_faults); keeper = omega (arith, keeper_faults, e.keeper.later); shelf = omega (arith, shelf_faults, e.shelf.later) };
     })
